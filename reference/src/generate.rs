@@ -1,0 +1,238 @@
+//! Repeatable pseudo-random trees and rays for tests.
+
+use crate::field::Ray;
+use crate::part::{Kind, Node, Part, REACH};
+
+/// The SplitMix64 generator.
+#[derive(Clone, Debug)]
+pub struct SplitMix64(u64);
+
+impl SplitMix64 {
+    /// A generator with a fixed seed.
+    pub fn new(seed: u64) -> SplitMix64 {
+        SplitMix64(seed)
+    }
+
+    /// The next 64 bits.
+    pub fn next_u64(&mut self) -> u64 {
+        self.0 = self.0.wrapping_add(0x9e37_79b9_7f4a_7c15);
+        let mut z = self.0;
+        z = (z ^ (z >> 30)).wrapping_mul(0xbf58_476d_1ce4_e5b9);
+        z = (z ^ (z >> 27)).wrapping_mul(0x94d0_49bb_1331_11eb);
+        z ^ (z >> 31)
+    }
+
+    /// A number from `low` to `high`, both included.
+    pub fn between(&mut self, low: i64, high: i64) -> i64 {
+        let width = (i128::from(high) - i128::from(low) + 1).max(1);
+        let step = i128::from(self.next_u64()) % width;
+        (i128::from(low) + step) as i64
+    }
+
+    /// True once in `n` on average.
+    pub fn one_in(&mut self, n: i64) -> bool {
+        self.between(1, n) == 1
+    }
+
+    /// One of the items; `items` is not empty.
+    pub fn pick<T: Copy>(&mut self, items: &[T]) -> T {
+        items[self.between(0, items.len() as i64 - 1) as usize]
+    }
+}
+
+/// Ranges from which a part is drawn, both ends included.
+#[derive(Clone, Copy, Debug)]
+pub struct Shape {
+    /// Number of points.
+    pub points: (i64, i64),
+    /// Sizes of centre coordinates.
+    pub reach: i64,
+    /// Radii.
+    pub radius: (i64, i64),
+    /// Weights.
+    pub weight: (i64, i64),
+    /// Iso-values.
+    pub iso: (i64, i64),
+}
+
+/// A random part of the given shape.
+pub fn part(random: &mut SplitMix64, shape: &Shape) -> Part {
+    let mut left = random.between(shape.points.0, shape.points.1);
+    let mut held = 0;
+    let mut nodes = Vec::new();
+    while left > 0 || held > 1 {
+        let join = held >= 2 && (left == 0 || held == 64 || random.one_in(2));
+        if join {
+            nodes.push(operator(random.pick(&[Kind::Sum, Kind::Greater])));
+            held -= 1;
+        } else {
+            nodes.push(point(random, shape));
+            left -= 1;
+            held += 1;
+        }
+    }
+    let iso = random.between(shape.iso.0, shape.iso.1) as u16;
+    Part { iso, nodes }
+}
+
+fn operator(kind: Kind) -> Node {
+    Node {
+        kind,
+        r: 0,
+        x: 0,
+        y: 0,
+        z: 0,
+        w: 0,
+    }
+}
+
+fn point(random: &mut SplitMix64, shape: &Shape) -> Node {
+    let mut coordinate = || random.between(-shape.reach, shape.reach) as i16;
+    let (x, y, z) = (coordinate(), coordinate(), coordinate());
+    Node {
+        kind: Kind::Point,
+        r: random.between(shape.radius.0, shape.radius.1) as u16,
+        x,
+        y,
+        z,
+        w: random.between(shape.weight.0, shape.weight.1) as i16,
+    }
+}
+
+/// How a ray lies to the part.
+#[derive(Clone, Copy, Debug, PartialEq, Eq)]
+pub enum Style {
+    /// Parallel to an axis, within a point's radius.
+    Axis,
+    /// Through a point's centre.
+    Centre,
+    /// Parallel to an axis, close to a point's surface or rim.
+    Grazing,
+    /// One step long, near a point's surface.
+    OneStep,
+    /// From one side of the space to the other.
+    Long,
+    /// Between two random places.
+    Any,
+}
+
+/// All styles.
+pub const STYLES: [Style; 6] = [
+    Style::Axis,
+    Style::Centre,
+    Style::Grazing,
+    Style::OneStep,
+    Style::Long,
+    Style::Any,
+];
+
+/// A random ray of the given style; its ends differ and are in range.
+pub fn ray(random: &mut SplitMix64, part: &Part, style: Style) -> Ray {
+    let points: Vec<Node> = part
+        .nodes
+        .iter()
+        .copied()
+        .filter(|node| node.kind == Kind::Point)
+        .collect();
+    let target = random.pick(&points);
+    let (a, b) = match style {
+        Style::Axis => axis(random, &target),
+        Style::Centre => through_centre(random, &target),
+        Style::Grazing => grazing(random, &target, part.iso),
+        Style::OneStep => one_step(random, &target, part.iso),
+        Style::Long => long(random),
+        Style::Any => (anywhere(random), anywhere(random)),
+    };
+    differing(clamped(a), clamped(b))
+}
+
+fn centre(point: &Node) -> [i64; 3] {
+    [point.x, point.y, point.z].map(i64::from)
+}
+
+fn clamped(at: [i64; 3]) -> [i32; 3] {
+    let reach = i64::from(REACH);
+    at.map(|c| c.clamp(-reach, reach) as i32)
+}
+
+fn differing(a: [i32; 3], mut b: [i32; 3]) -> Ray {
+    if a == b {
+        b[0] = if a[0] < REACH { a[0] + 1 } else { a[0] - 1 };
+    }
+    Ray { a, b }
+}
+
+fn anywhere(random: &mut SplitMix64) -> [i64; 3] {
+    let reach = i64::from(REACH);
+    [0; 3].map(|_: i64| random.between(-reach, reach))
+}
+
+/// Ends on both sides of the target along one axis, moved by `offset` along
+/// the next one.
+fn parallel(random: &mut SplitMix64, target: &Node, offset: i64) -> ([i64; 3], [i64; 3]) {
+    let along = random.between(0, 2) as usize;
+    let across = (along + 1) % 3;
+    let r = i64::from(target.r);
+    let mut a = centre(target);
+    a[across] += offset;
+    let mut b = a;
+    a[along] -= random.between(0, 3 * r);
+    b[along] += random.between(0, 3 * r);
+    if random.one_in(2) {
+        (a, b)
+    } else {
+        (b, a)
+    }
+}
+
+fn axis(random: &mut SplitMix64, target: &Node) -> ([i64; 3], [i64; 3]) {
+    let r = i64::from(target.r);
+    let offset = random.between(-r, r);
+    parallel(random, target, offset)
+}
+
+fn grazing(random: &mut SplitMix64, target: &Node, iso: u16) -> ([i64; 3], [i64; 3]) {
+    let edge = random.pick(&[i64::from(target.r), surface(target, iso)]);
+    let offset = edge + random.between(-1, 1);
+    parallel(random, target, offset)
+}
+
+/// The greatest whole distance at which the point alone is at least iso.
+fn surface(point: &Node, iso: u16) -> i64 {
+    let r = i128::from(point.r);
+    let solid = |d: &i64| {
+        let depth = r * r - i128::from(*d) * i128::from(*d);
+        i128::from(point.w) * depth * depth >= i128::from(iso) * r * r * r * r
+    };
+    (0..i64::from(point.r)).rev().find(solid).unwrap_or(0)
+}
+
+fn through_centre(random: &mut SplitMix64, target: &Node) -> ([i64; 3], [i64; 3]) {
+    let r = i64::from(target.r);
+    let middle = centre(target);
+    let room = middle.iter().map(|c| i64::from(REACH) - c.abs()).min();
+    let most = (2 * r).min(room.unwrap_or(0));
+    let way = [0; 3].map(|_: i64| random.between(-most, most));
+    let a = [0, 1, 2].map(|i| middle[i] - way[i]);
+    let b = [0, 1, 2].map(|i| middle[i] + way[i]);
+    (a, b)
+}
+
+fn one_step(random: &mut SplitMix64, target: &Node, iso: u16) -> ([i64; 3], [i64; 3]) {
+    let along = random.between(0, 2) as usize;
+    let mut a = centre(target);
+    a[along] += surface(target, iso) + random.between(-1, 1);
+    let mut b = a;
+    b[random.between(0, 2) as usize] += random.pick(&[-1, 1]);
+    (a, b)
+}
+
+fn long(random: &mut SplitMix64) -> ([i64; 3], [i64; 3]) {
+    let reach = i64::from(REACH);
+    let mut a = anywhere(random);
+    let mut b = anywhere(random);
+    let along = random.between(0, 2) as usize;
+    a[along] = -reach;
+    b[along] = reach;
+    (a, b)
+}

@@ -1,0 +1,25 @@
+//! The exact reference of the ray caster for trees of soft points, written
+//! from the rules alone with exact fractions.
+//!
+//! - [`big`]: whole numbers of any size.
+//! - [`fraction`]: exact fractions.
+//! - [`part`]: the part file, its questions and a builder.
+//! - [`field`]: the exact field, bounds of spans and places, the tolerance.
+//! - [`cast`]: bounds at a place, full cast, first hit and column.
+//! - [`view`]: the viewer's first hit.
+//! - [`lister`]: the ray lister's text.
+//! - [`totals`]: the running totals.
+//! - [`generate`]: repeatable pseudo-random trees and rays for tests.
+
+#![forbid(unsafe_code)]
+#![warn(missing_docs)]
+
+pub mod big;
+pub mod cast;
+pub mod field;
+pub mod fraction;
+pub mod generate;
+pub mod lister;
+pub mod part;
+pub mod totals;
+pub mod view;
