@@ -1,0 +1,331 @@
+//! Every case of "Rays and places tried".
+
+use reference::cast::{
+    bounds_at, column, first_hit, full_cast, Column, FirstHit, FullCast, Mark, COLUMN_BYTES,
+};
+use reference::field::{Bounds, Ray};
+use reference::lister::list;
+use reference::part::{check, FileBuilder};
+
+const AXIS: Ray = Ray {
+    a: [-1024, 0, 0],
+    b: [1024, 0, 0],
+};
+
+fn file_k() -> Vec<u8> {
+    FileBuilder::new(1).point(512, [0, 0, 0], 4).build()
+}
+
+/// The case's ray moved to another y.
+fn at_y(y: i32) -> Ray {
+    Ray {
+        a: [-1024, y, 0],
+        b: [1024, y, 0],
+    }
+}
+
+fn both(low: i64, high: i64) -> Result<Bounds, u32> {
+    Ok(Bounds { low, high })
+}
+
+/// The lister's input.
+fn input(ray: &Ray, budget: u16, file: &[u8]) -> Vec<u8> {
+    let mut bytes = Vec::new();
+    for c in ray.a.iter().chain(&ray.b) {
+        bytes.extend_from_slice(&(*c as i16).to_le_bytes());
+    }
+    bytes.extend_from_slice(&budget.to_le_bytes());
+    bytes.extend_from_slice(file);
+    bytes
+}
+
+#[test]
+fn k_at_places() {
+    let k = file_k();
+    let four = 17_179_869_184;
+    assert_eq!(bounds_at(&k, [0, 0, 0]), both(four, four));
+    assert_eq!(bounds_at(&k, [512, 0, 0]), both(0, 0));
+    let near = 4_296_802_500;
+    assert_eq!(bounds_at(&k, [362, 0, 0]), both(near, near));
+    assert_eq!(bounds_at(&k, [0, -362, 0]), both(near, near));
+    assert_eq!(bounds_at(&k, [2047, 0, 0]), both(0, 0));
+}
+
+#[test]
+fn radius_3_both_signs() {
+    let file = |w| FileBuilder::new(1).point(3, [0; 3], w).build();
+    let (low, high) = (3_393_528_516, 3_393_645_025);
+    assert_eq!(bounds_at(&file(1), [1, 0, 0]), both(low, high));
+    assert_eq!(bounds_at(&file(-1), [1, 0, 0]), both(-high, -low));
+}
+
+#[test]
+fn lister_prints_the_axis_ray() {
+    let expected = "empty 0 330\n\
+                    crossing 330 331\n\
+                    inside 331 693\n\
+                    crossing 693 694\n\
+                    empty 694 1024\n\
+                    probes 39 complete\n";
+    assert_eq!(list(&input(&AXIS, 2047, &file_k())), expected);
+}
+
+#[test]
+fn first_hit_on_the_axis_ray() {
+    let k = file_k();
+    let hit = FirstHit::Hit {
+        tick: 330,
+        mark: Mark::Crossing,
+        probes: 15,
+    };
+    for budget in [15, 16, 39, 2047, u32::MAX] {
+        assert_eq!(first_hit(&k, &AXIS, budget), hit);
+    }
+    assert_eq!(hit.number(), (1 << 32) + (330 << 16) + 15);
+}
+
+#[test]
+fn budget_14_is_spent_at_330() {
+    let k = file_k();
+    let spent = FirstHit::Spent {
+        probes: 14,
+        tick: 330,
+    };
+    assert_eq!(first_hit(&k, &AXIS, 14), spent);
+    assert_eq!(spent.number(), (4 << 32) + (330 << 16) + 14);
+    let mut marks = [9; 1024];
+    let cast = full_cast(&k, &AXIS, 14, &mut marks);
+    let expected = FullCast::Spent {
+        probes: 14,
+        tick: 330,
+    };
+    assert_eq!(cast, expected);
+    assert_eq!(cast.number(), 131_072 + 14);
+    assert!(marks[..330].iter().all(|&m| m == 0));
+    assert!(marks[330..].iter().all(|&m| m == 3));
+    let text = list(&input(&AXIS, 14, &k));
+    assert_eq!(text, "empty 0 330\nprobes 14 spent 330\n");
+}
+
+#[test]
+fn y_512_is_all_empty() {
+    let k = file_k();
+    let mut marks = [9; 1024];
+    let cast = full_cast(&k, &at_y(512), 2047, &mut marks);
+    assert_eq!(cast, FullCast::Complete { probes: 1 });
+    assert_eq!(cast.number(), 65_537);
+    assert_eq!(marks, [0; 1024]);
+    let clear = first_hit(&k, &at_y(512), 1);
+    assert_eq!(clear, FirstHit::Clear { probes: 1 });
+    assert_eq!(clear.number(), (3 << 32) + 1);
+    let text = list(&input(&at_y(512), 2047, &k));
+    assert_eq!(text, "empty 0 1024\nprobes 1 complete\n");
+}
+
+#[test]
+fn y_362_crosses_inside_509_and_514() {
+    let expected = "empty 0 509\n\
+                    crossing 509 510\n\
+                    inside 510 514\n\
+                    crossing 514 515\n\
+                    empty 515 1024\n\
+                    probes 39 complete\n";
+    assert_eq!(list(&input(&at_y(362), 2047, &file_k())), expected);
+    let mut bits = [9; COLUMN_BYTES];
+    let done = column(&file_k(), &at_y(362), &mut bits);
+    assert_eq!(done, Column::Done { probes: 39 });
+    assert_eq!(done.number(), 65_575);
+    let mut expected = [0; COLUMN_BYTES];
+    expected[63] = 0b1110_0000;
+    expected[64] = 0b0000_0111;
+    assert_eq!(bits, expected);
+}
+
+#[test]
+fn weights_4_and_minus_4_cancel() {
+    let file = FileBuilder::new(1)
+        .point(512, [0; 3], 4)
+        .point(512, [0; 3], -4)
+        .sum()
+        .build();
+    let mut marks = [9; 1024];
+    let cast = full_cast(&file, &AXIS, 2047, &mut marks);
+    assert!(matches!(cast, FullCast::Complete { probes } if probes > 1));
+    assert_eq!(marks, [0; 1024]);
+}
+
+#[test]
+fn ends_that_meet() {
+    let ray = Ray {
+        a: [5, 6, 7],
+        b: [5, 6, 7],
+    };
+    let mut buffer = [9; 1024];
+    let k = file_k();
+    assert_eq!(first_hit(&k, &ray, 2047), FirstHit::Refused(13));
+    assert_eq!(column(&k, &ray, &mut buffer), Column::Refused(13));
+    let cast = full_cast(&k, &ray, 2047, &mut buffer);
+    assert_eq!(cast, FullCast::Refused(13));
+    assert_eq!(cast.number(), 13);
+    assert_eq!(buffer, [9; 1024]);
+    assert_eq!(list(&input(&ray, 2047, &k)), "refused 13\n");
+}
+
+#[test]
+fn coordinate_limits() {
+    let k = file_k();
+    for value in [2048, -2048, 65_536, 65_535, i32::MAX, i32::MIN] {
+        for i in 0..6 {
+            let mut ray = AXIS;
+            let end = if i < 3 { &mut ray.a } else { &mut ray.b };
+            end[i % 3] = value;
+            assert_eq!(first_hit(&k, &ray, 9), FirstHit::Refused(12));
+            assert_eq!(column(&k, &ray, &mut []), Column::Refused(12));
+            let cast = full_cast(&k, &ray, 9, &mut []);
+            assert_eq!(cast, FullCast::Refused(12));
+        }
+        for i in 0..3 {
+            let mut at = [0; 3];
+            at[i] = value;
+            assert_eq!(bounds_at(&k, at), Err(12));
+        }
+    }
+    for value in [2047, -2047] {
+        for i in 0..3 {
+            let mut at = [0; 3];
+            at[i] = value;
+            assert!(bounds_at(&k, at).is_ok());
+            let ray = Ray {
+                a: at,
+                b: [1, 1, 1],
+            };
+            assert!(first_hit(&k, &ray, 9).probes().is_some());
+            let ray = Ray {
+                a: [1, 1, 1],
+                b: at,
+            };
+            assert!(first_hit(&k, &ray, 9).probes().is_some());
+        }
+    }
+}
+
+#[test]
+fn order_of_questions_12_to_14() {
+    let k = file_k();
+    let far = Ray {
+        a: [2048, 0, 0],
+        b: [2048, 0, 0],
+    };
+    assert_eq!(first_hit(&k, &far, 0), FirstHit::Refused(12));
+    assert_eq!(full_cast(&k, &far, 0, &mut []), FullCast::Refused(12));
+    let point = Ray {
+        a: [1, 0, 0],
+        b: [1, 0, 0],
+    };
+    assert_eq!(full_cast(&k, &point, 0, &mut []), FullCast::Refused(13));
+    assert_eq!(column(&k, &point, &mut []), Column::Refused(13));
+    let bad = FileBuilder::new(1).point(0, [0; 3], 4).build();
+    assert_eq!(full_cast(&bad, &far, 0, &mut []), FullCast::Refused(8));
+    assert_eq!(bounds_at(&bad, [2048, 0, 0]), Err(8));
+    let open = FileBuilder::new(1).point(1, [0; 3], 4).point(1, [0; 3], 4);
+    assert_eq!(first_hit(&open.build(), &far, 0), FirstHit::Refused(11));
+}
+
+#[test]
+fn refused_files() {
+    let k = FileBuilder::new(1).point(512, [0; 3], 4);
+    let bad = k.clone().mark([0; 4]).version(9).build();
+    assert_eq!(check(&bad), Err(2));
+    let radius = |r| FileBuilder::new(1).point(r, [0; 3], 4).build();
+    assert_eq!(check(&radius(1024)), Ok((1, 1)));
+    assert_eq!(check(&radius(1025)), Err(8));
+    assert_eq!(check(&FileBuilder::new(1).sum().build()), Err(9));
+    let held = (0..65).fold(FileBuilder::new(1), |b, _| b.point(1, [0; 3], 1));
+    assert_eq!(check(&held.build()), Err(10));
+    let centre = FileBuilder::new(1).point(1, [-2048, 0, 0], 1);
+    assert_eq!(check(&centre.build()), Err(8));
+}
+
+#[test]
+fn buffer_lengths() {
+    let k = file_k();
+    for length in [0, 1, 127, 128, 1022, 1023] {
+        let mut buffer = vec![9; length];
+        let cast = full_cast(&k, &AXIS, 2047, &mut buffer);
+        assert_eq!(cast, FullCast::Refused(14));
+        assert!(buffer.iter().all(|&b| b == 9));
+    }
+    for length in [0, 1, 127] {
+        let mut buffer = vec![9; length];
+        assert_eq!(column(&k, &AXIS, &mut buffer), Column::Refused(14));
+        assert!(buffer.iter().all(|&b| b == 9));
+    }
+    for length in [1024, 1025, 4000] {
+        let mut buffer = vec![9; length];
+        let cast = full_cast(&k, &AXIS, 2047, &mut buffer);
+        assert_eq!(cast, FullCast::Complete { probes: 39 });
+        assert!(buffer[..1024].iter().all(|&b| b < 3));
+        assert!(buffer[1024..].iter().all(|&b| b == 9));
+    }
+    for length in [128, 129, 1024] {
+        let mut buffer = vec![9; length];
+        let done = column(&k, &AXIS, &mut buffer);
+        assert_eq!(done, Column::Done { probes: 39 });
+        assert_eq!(buffer[41], 0b1111_1100);
+        assert!(buffer[128..].iter().all(|&b| b == 9));
+    }
+}
+
+#[test]
+fn budget_0_is_spent_at_once() {
+    let k = file_k();
+    let mut marks = [9; 1025];
+    let cast = full_cast(&k, &AXIS, 0, &mut marks);
+    assert_eq!(cast, FullCast::Spent { probes: 0, tick: 0 });
+    assert_eq!(cast.number(), 131_072);
+    assert!(marks[..1024].iter().all(|&m| m == 3));
+    assert_eq!(marks[1024], 9);
+    let spent = FirstHit::Spent { probes: 0, tick: 0 };
+    assert_eq!(first_hit(&k, &AXIS, 0), spent);
+    assert_eq!(spent.number(), 4 << 32);
+    let text = list(&input(&AXIS, 0, &k));
+    assert_eq!(text, "probes 0 spent 0\n");
+}
+
+#[test]
+fn an_inside_hit() {
+    let file = FileBuilder::new(1).point(1024, [0; 3], 4096).build();
+    let ray = Ray {
+        a: [1, 0, 0],
+        b: [2, 0, 0],
+    };
+    let hit = FirstHit::Hit {
+        tick: 0,
+        mark: Mark::Inside,
+        probes: 1,
+    };
+    assert_eq!(first_hit(&file, &ray, 1), hit);
+    assert_eq!(hit.number(), (2 << 32) + 1);
+    let text = list(&input(&ray, 1, &file));
+    assert_eq!(text, "inside 0 1024\nprobes 1 complete\n");
+}
+
+#[test]
+fn lister_refusals() {
+    let whole = input(&AXIS, 2047, &file_k());
+    for length in 0..38 {
+        assert_eq!(list(&whole[..length]), "refused 1\n");
+    }
+    let mut bad = whole.clone();
+    bad[37] ^= 1;
+    assert_eq!(list(&bad), "refused 2\n");
+    let mut far = whole.clone();
+    far[..2].copy_from_slice(&2048i16.to_le_bytes());
+    assert_eq!(list(&far), "refused 12\n");
+    let mut over = whole[..14].to_vec();
+    over.extend(vec![0; 65_513]);
+    over.extend(&whole[14..]);
+    assert_eq!(list(&over), "refused 1\n");
+    over.remove(14);
+    assert!(list(&over).ends_with("probes 39 complete\n"));
+}
