@@ -1,0 +1,190 @@
+//! Random and mutated bytes through every call: an answer always, nothing
+//! written on refusal, and the file's refusal before any other.
+
+use reference::cast::{bounds_at, column, first_hit, full_cast, FullCast};
+use reference::field::Ray;
+use reference::generate::{self, Shape, SplitMix64, STYLES};
+use reference::lister::list;
+use reference::part::{check, operator_record, point_record, FileBuilder, Part, FILE_MARK};
+use reference::view::{viewer_first_hit, ViewRay};
+
+const SHAPE: Shape = Shape {
+    points: (1, 6),
+    reach: 800,
+    radius: (1, 900),
+    weight: (-20, 40),
+    iso: (1, 6),
+};
+
+fn random_part(random: &mut SplitMix64) -> (Part, Vec<u8>) {
+    let part = generate::part(random, &SHAPE);
+    let length = random.pick(&[0, 0, 1, 12, 50]);
+    let file = FileBuilder::from(&part).leading(&vec![3; length]).build();
+    (part, file)
+}
+
+/// Bytes of any content.
+fn random_bytes(random: &mut SplitMix64) -> Vec<u8> {
+    let length = random.pick(&[0, 1, 11, 12, 23, 24, 36, 60, 300]);
+    let mut bytes: Vec<u8> = (0..length).map(|_| random.next_u64() as u8).collect();
+    if random.one_in(2) {
+        let version = random.pick(&[0, 1, 1, 1]);
+        bytes.extend([1, 0, version, 0, random.pick(&[24, 36, 48, 49]), 0, 0, 0]);
+        bytes.extend(FILE_MARK);
+    }
+    bytes
+}
+
+/// Records drawn one by one, each right more often than not, under a trailer
+/// that is right more often than not.
+fn random_records(random: &mut SplitMix64) -> Vec<u8> {
+    let mut builder = FileBuilder::new(random.pick(&[0, 1, 2, 4096, 4097]));
+    for _ in 0..random.pick(&[1, 2, 3, 3, 5, 8, 70]) {
+        let centre = [0; 3].map(|_: i16| random.between(-2060, 2060) as i16);
+        let mut record = match random.between(0, 9) {
+            0 => operator_record(random.pick(&[0, 4, 255])),
+            1..=4 => operator_record(random.pick(&[2, 3])),
+            _ => point_record(random.between(0, 1030) as u16, centre, 40),
+        };
+        if random.one_in(20) {
+            record[random.between(0, 11) as usize] = random.next_u64() as u8;
+        }
+        builder = builder.raw(record);
+    }
+    builder.build()
+}
+
+/// One or two changes: a byte, a bit, a cut, a doubled piece.
+fn mutate(random: &mut SplitMix64, file: &mut Vec<u8>) {
+    for _ in 0..random.between(1, 2) {
+        let last = file.len() as i64 - 1;
+        if last < 0 {
+            return;
+        }
+        let at = random.between(0, last) as usize;
+        match random.between(0, 12) {
+            0 => file[at] = random.next_u64() as u8,
+            1 => file[at] ^= 1 << random.between(0, 7),
+            2 => file.truncate(at),
+            3 => drop(file.remove(at)),
+            4 => file.insert(at, random.next_u64() as u8),
+            5..=10 => file[at] = file[at].wrapping_add(random.between(0, 1) as u8),
+            _ => {
+                let copy: Vec<u8> = file[at..].iter().take(12).copied().collect();
+                file.splice(at..at, copy);
+            }
+        }
+    }
+}
+
+fn random_ray(random: &mut SplitMix64, part: &Part) -> Ray {
+    let style = random.pick(&STYLES);
+    let mut ray = generate::ray(random, part, style);
+    match random.between(0, 9) {
+        0 => ray.b = ray.a,
+        1 => ray.a[random.between(0, 2) as usize] = random.next_u64() as i32,
+        _ => {}
+    }
+    ray
+}
+
+/// All calls on one file and ray; whether the full cast was refused.
+fn exercise(random: &mut SplitMix64, file: &[u8], ray: &Ray) -> bool {
+    let budget = random.pick(&[0, 1, 17, 40, 100, u32::MAX]);
+    let length = random.pick(&[0, 1023, 1024, 1030, 1024]);
+    let mut buffer = vec![0xa5; length];
+    let cast = full_cast(file, ray, budget, &mut buffer);
+    let hit = first_hit(file, ray, budget);
+    match cast {
+        FullCast::Refused(number) => {
+            assert!((1..=14).contains(&number));
+            assert!(buffer.iter().all(|&b| b == 0xa5));
+            assert_eq!(hit.probes().is_some(), number == 14);
+        }
+        _ => {
+            assert!(buffer[..1024].iter().all(|&b| b <= 3));
+            assert!(buffer[1024..].iter().all(|&b| b == 0xa5));
+            assert!(hit.probes() <= cast.probes());
+        }
+    }
+    if let Err(number) = check(file) {
+        assert_eq!(cast, FullCast::Refused(number));
+        assert_eq!(column(file, ray, &mut buffer).number(), number);
+        assert_eq!(hit.number(), u64::from(number));
+        assert_eq!(bounds_at(file, ray.a), Err(number));
+    }
+    let view = ViewRay {
+        a: ray.a.map(|c| c as f32 / 64.0),
+        b: ray.b.map(|c| f32::from_bits(c as u32)),
+    };
+    viewer_first_hit(file, view, budget);
+    cast.probes().is_none()
+}
+
+#[test]
+fn mutated_files() {
+    let mut random = SplitMix64::new(61);
+    let mut refused = 0;
+    for _ in 0..20_000 {
+        let (part, mut file) = random_part(&mut random);
+        mutate(&mut random, &mut file);
+        let ray = random_ray(&mut random, &part);
+        refused += u32::from(exercise(&mut random, &file, &ray));
+    }
+    assert!((9_000..18_000).contains(&refused), "{refused}");
+}
+
+#[test]
+fn random_files() {
+    let mut random = SplitMix64::new(62);
+    let (part, _) = random_part(&mut random);
+    let mut numbers = [0; 12];
+    for _ in 0..12_000 {
+        let file = match random.one_in(3) {
+            true => random_bytes(&mut random),
+            false => random_records(&mut random),
+        };
+        let ray = random_ray(&mut random, &part);
+        exercise(&mut random, &file, &ray);
+        if let Err(number) = check(&file) {
+            numbers[number as usize] += 1;
+        }
+    }
+    for number in [1, 2, 3, 4, 5, 6, 7, 8, 9, 11] {
+        assert!(numbers[number] > 0, "{numbers:?}");
+    }
+}
+
+#[test]
+fn cut_files() {
+    let mut random = SplitMix64::new(63);
+    for _ in 0..20 {
+        let (part, file) = random_part(&mut random);
+        let ray = random_ray(&mut random, &part);
+        for length in 0..=file.len() {
+            exercise(&mut random, &file[..length], &ray);
+            exercise(&mut random, &file[file.len() - length..], &ray);
+        }
+    }
+}
+
+#[test]
+fn lister_on_random_input() {
+    let mut random = SplitMix64::new(64);
+    for _ in 0..2_000 {
+        let (part, file) = random_part(&mut random);
+        let ray = random_ray(&mut random, &part);
+        let mut input = Vec::new();
+        for c in ray.a.iter().chain(&ray.b) {
+            input.extend_from_slice(&(*c as i16).to_le_bytes());
+        }
+        input.extend_from_slice(&(random.next_u64() as u16 >> 6).to_le_bytes());
+        input.extend(file);
+        if random.one_in(2) {
+            mutate(&mut random, &mut input);
+        }
+        let text = list(&input);
+        assert!(text.ends_with('\n'));
+        assert!(text.starts_with("refused ") || text.contains("probes "));
+    }
+}

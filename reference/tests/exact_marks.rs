@@ -1,0 +1,278 @@
+//! The marks against the exact field at fractional places: empty means below
+//! iso, inside means at least iso, crossing means within the tolerance.
+
+use reference::cast::{column, first_hit, full_cast, FirstHit, FullCast};
+use reference::field::{field_at, nearest, tolerance, Ray};
+use reference::fraction::Fraction;
+use reference::generate::{self, Shape, SplitMix64, Style, STYLES};
+use reference::part::{read, FileBuilder, Kind, Node, Part};
+
+/// One ray of one part with its marks.
+struct Case {
+    part: Part,
+    ray: Ray,
+    marks: [u8; 1024],
+    looked_at: u32,
+    tolerance: Fraction,
+    seen: [u64; 3],
+}
+
+fn fraction(num: i128, den: i128) -> Fraction {
+    Fraction::new(num, den).expect("denominator not 0")
+}
+
+impl Case {
+    fn new(part: Part, ray: Ray, budget: u32) -> Case {
+        let file = FileBuilder::from(&part).build();
+        let mut marks = [9; 1024];
+        let looked_at = match full_cast(&file, &ray, budget, &mut marks) {
+            FullCast::Complete { .. } => 1024,
+            FullCast::Spent { tick, .. } => tick,
+            FullCast::Refused(number) => panic!("refused {number}"),
+        };
+        assert!(marks[looked_at as usize..].iter().all(|&m| m == 3));
+        let tolerance = tolerance(&part.nodes, &ray).expect("a tree").reduced();
+        Case {
+            part,
+            ray,
+            marks,
+            looked_at,
+            tolerance,
+            seen: [0; 3],
+        }
+    }
+
+    /// Checks the mark of tick t at the place s, which the tick holds.
+    fn check_place(&mut self, t: u32, s: &Fraction) {
+        assert!(fraction(t.into(), 1024) <= *s && *s <= fraction((t + 1).into(), 1024));
+        let field = field_at(&self.part.nodes, &self.ray.place(s)).expect("a tree");
+        let iso = Fraction::from(i64::from(self.part.iso));
+        let mark = self.marks[t as usize];
+        let right = match mark {
+            0 => field < iso,
+            1 => (&field - &iso).abs() <= self.tolerance,
+            2 => field >= iso,
+            _ => false,
+        };
+        assert!(
+            right,
+            "mark {mark}, tick {t}, place {s}, field {field}, {:?}, {:?}",
+            self.ray, self.part
+        );
+        self.seen[mark as usize] += 1;
+    }
+
+    /// The place n/m with the least n that tick t holds, if there is one.
+    fn check_with_denominator(&mut self, t: u32, m: i128) {
+        let t_wide = i128::from(t);
+        let n = (t_wide * m + 1023) / 1024;
+        if 1024 * n <= (t_wide + 1) * m {
+            self.check_place(t, &fraction(n, m));
+        }
+    }
+
+    /// The ends and the middle, and places with odd denominators.
+    fn check_tick(&mut self, t: u32, odd: &[i128]) {
+        let t_wide = i128::from(t);
+        self.check_place(t, &fraction(t_wide, 1024));
+        self.check_place(t, &fraction(2 * t_wide + 1, 2048));
+        self.check_place(t, &fraction(t_wide + 1, 1024));
+        for &m in odd {
+            self.check_with_denominator(t, m);
+        }
+    }
+
+    /// Places spread over the ticks next to a change of mark.
+    fn check_changes(&mut self) {
+        for t in 0..self.looked_at {
+            let mark = |t: u32| self.marks.get(t as usize);
+            let same = mark(t) == mark(t + 1) && mark(t) == mark(t.saturating_sub(1));
+            if same && self.marks[t as usize] != 1 {
+                continue;
+            }
+            for k in 1..13 {
+                self.check_place(t, &fraction(13 * i128::from(t) + k, 13 * 1024));
+            }
+        }
+    }
+
+    /// The place nearest each centre, where a tick looked at holds it.
+    fn check_nearest(&mut self) {
+        let points: Vec<Node> = self.part.nodes.clone();
+        for point in points.iter().filter(|n| n.kind == Kind::Point) {
+            let s = nearest(&self.ray, point).expect("ends differ");
+            let tick = (&s * &Fraction::from(1024))
+                .floor()
+                .to_i128()
+                .expect("fits");
+            for t in [tick - 1, tick] {
+                let holds = s <= fraction(t + 1, 1024);
+                if t >= 0 && t < i128::from(self.looked_at) && holds {
+                    self.check_place(t as u32, &s);
+                }
+            }
+        }
+    }
+
+    fn check_all(&mut self, stride: u32, odd: &[i128]) {
+        for t in (0..self.looked_at).filter(|t| t % stride == 0) {
+            self.check_tick(t, odd);
+        }
+        self.check_changes();
+        self.check_nearest();
+    }
+}
+
+/// Runs `count` rays of each style on parts of one shape; the places seen
+/// with each mark.
+fn run(seed: u64, shape: &Shape, count: usize, stride: u32) -> [u64; 3] {
+    let mut random = SplitMix64::new(seed);
+    let mut seen = [0; 3];
+    for style in STYLES {
+        for _ in 0..count {
+            let part = generate::part(&mut random, shape);
+            let ray = generate::ray(&mut random, &part, style);
+            let budget = random.pick(&[2047, 2047, u32::MAX, 12, 30]);
+            let odd = [7 * 1024 + 1, 7 * 1024, random.between(1, 9999).into()];
+            let mut case = Case::new(part, ray, budget);
+            case.check_all(stride, &odd);
+            for (total, more) in seen.iter_mut().zip(case.seen) {
+                *total += more;
+            }
+        }
+    }
+    seen
+}
+
+#[test]
+fn few_points() {
+    let shape = Shape {
+        points: (1, 4),
+        reach: 500,
+        radius: (100, 1024),
+        weight: (-6, 30),
+        iso: (1, 6),
+    };
+    let seen = run(31, &shape, 40, 1);
+    assert!(seen.iter().all(|&n| n > 10_000), "{seen:?}");
+}
+
+#[test]
+fn small_radii() {
+    let shape = Shape {
+        points: (1, 5),
+        reach: 12,
+        radius: (1, 20),
+        weight: (-9, 40),
+        iso: (1, 5),
+    };
+    let seen = run(32, &shape, 60, 1);
+    assert!(seen.iter().all(|&n| n > 2_000), "{seen:?}");
+}
+
+#[test]
+fn large_weights() {
+    let shape = Shape {
+        points: (1, 3),
+        reach: 800,
+        radius: (200, 1024),
+        weight: (-4096, 4096),
+        iso: (1, 900),
+    };
+    let seen = run(33, &shape, 60, 1);
+    assert!(seen.iter().all(|&n| n > 1_000), "{seen:?}");
+}
+
+#[test]
+fn deep_trees() {
+    let shape = Shape {
+        points: (8, 40),
+        reach: 900,
+        radius: (50, 700),
+        weight: (-5, 12),
+        iso: (1, 5),
+    };
+    let seen = run(34, &shape, 20, 4);
+    assert!(seen.iter().all(|&n| n > 500), "{seen:?}");
+}
+
+#[test]
+fn single_points_near_the_surface() {
+    let mut random = SplitMix64::new(35);
+    let shape = Shape {
+        points: (1, 1),
+        reach: 900,
+        radius: (1, 1024),
+        weight: (1, 60),
+        iso: (1, 20),
+    };
+    for i in 0..200 {
+        let part = generate::part(&mut random, &shape);
+        let style = [Style::OneStep, Style::Grazing][i % 2];
+        let ray = generate::ray(&mut random, &part, style);
+        let mut case = Case::new(part, ray, 2047);
+        case.check_all(1, &[7 * 1024 + 5]);
+    }
+}
+
+/// Two points that nearly cancel, so that many ticks stay undecided.
+fn cancelling(random: &mut SplitMix64) -> Part {
+    let w = random.between(500, 4000) as i16;
+    let r = random.between(300, 1000) as u16;
+    let mut near = || random.between(-3, 3) as i16;
+    let second = [near(), near(), near()];
+    let (more, wider) = (near() * 5, near());
+    let file = FileBuilder::new(random.between(1, 30) as u16)
+        .point(r, [0; 3], w)
+        .point(r.saturating_add_signed(wider), second, more - w)
+        .sum()
+        .point(200, [100, 0, 0], 20)
+        .greater();
+    read(&file.build()).expect("accepted")
+}
+
+#[test]
+fn cancelling_points() {
+    let mut random = SplitMix64::new(37);
+    let mut seen = [0; 3];
+    for i in 0..120 {
+        let part = cancelling(&mut random);
+        let ray = generate::ray(&mut random, &part, STYLES[i % STYLES.len()]);
+        let mut case = Case::new(part, ray, 2047);
+        case.check_all(3, &[7 * 1024 + 1]);
+        for (total, more) in seen.iter_mut().zip(case.seen) {
+            *total += more;
+        }
+    }
+    assert!(seen.iter().all(|&n| n > 5_000), "{seen:?}");
+}
+
+/// A first hit and a column claim the same of the field as the full cast.
+#[test]
+fn hits_and_columns_hand_over_the_same_marks() {
+    let mut random = SplitMix64::new(36);
+    let shape = Shape {
+        points: (1, 6),
+        reach: 600,
+        radius: (50, 900),
+        weight: (-6, 30),
+        iso: (1, 4),
+    };
+    for i in 0..120 {
+        let part = generate::part(&mut random, &shape);
+        let ray = generate::ray(&mut random, &part, STYLES[i % STYLES.len()]);
+        let file = FileBuilder::from(&part).build();
+        let mut bits = [0; 128];
+        column(&file, &ray, &mut bits);
+        let mut case = Case::new(part, ray, 2047);
+        for t in 0..1024 {
+            let bit = bits[t / 8] >> (t % 8) & 1;
+            assert_eq!(bit == 1, case.marks[t] != 0);
+        }
+        if let FirstHit::Hit { tick, mark, .. } = first_hit(&file, &ray, 2047) {
+            case.marks[tick as usize] = mark.byte();
+            case.check_tick(tick, &[7 * 1024 + 1]);
+            case.check_tick(tick.saturating_sub(1), &[7 * 1024 + 1]);
+        }
+    }
+}

@@ -1,0 +1,272 @@
+//! Marks, probes and budgets against the rules: each tick judged alone, the
+//! probe count by its definition, first hit and column by the full cast.
+
+use reference::cast::{column, first_hit, full_cast, judge, judge_tick, probe_count};
+use reference::cast::{Column, FirstHit, FullCast, Mark, NOT_LOOKED_AT};
+use reference::field::{tick_bounds, Ray};
+use reference::generate::{self, Shape, SplitMix64, STYLES};
+use reference::part::{read, FileBuilder, Part};
+
+struct Case {
+    part: Part,
+    ray: Ray,
+    file: Vec<u8>,
+    /// Each tick judged alone.
+    alone: Vec<u8>,
+    /// The probe count of the whole ray by its definition.
+    count: u32,
+}
+
+impl Case {
+    fn new(part: Part, ray: Ray) -> Case {
+        let file = FileBuilder::from(&part).build();
+        let mark = |t| judge_tick(&part, &ray, t).expect("a tree").byte();
+        let alone = (0..1024).map(mark).collect();
+        let count = probe_count(&part, &ray, 0, 1024).expect("a tree");
+        Case {
+            part,
+            ray,
+            file,
+            alone,
+            count,
+        }
+    }
+
+    fn check(&self) {
+        assert!((1..=2047).contains(&self.count));
+        let more = [self.count + 1, 2047, 2048, 65_536, u32::MAX];
+        for budget in [0, 1, self.count - 1, self.count].iter().chain(&more) {
+            self.check_full_cast(*budget);
+            self.check_first_hit(*budget);
+        }
+        for budget in (2..self.count).step_by(1 + self.count as usize / 20) {
+            self.check_full_cast(budget);
+            self.check_first_hit(budget);
+        }
+        self.check_column();
+    }
+
+    fn check_full_cast(&self, budget: u32) {
+        let mut marks = [9; 1030];
+        let cast = full_cast(&self.file, &self.ray, budget, &mut marks);
+        let probes = budget.min(self.count);
+        let reached = match cast {
+            FullCast::Spent { tick, .. } => {
+                let expected = FullCast::Spent { probes, tick };
+                assert!(budget < self.count && tick < 1024);
+                assert_eq!(cast, expected);
+                assert_eq!(self.reached(budget), Some(tick));
+                tick as usize
+            }
+            _ => {
+                assert!(budget >= self.count);
+                assert_eq!(cast, FullCast::Complete { probes });
+                assert_eq!(self.reached(budget), None);
+                1024
+            }
+        };
+        assert_eq!(marks[..reached], self.alone[..reached]);
+        assert!(marks[reached..1024].iter().all(|&m| m == NOT_LOOKED_AT));
+        assert_eq!(marks[1024..], [9; 6]);
+    }
+
+    /// The tick at which the budget ends, by the probe counts: a span whose
+    /// count is within what is left is passed, another is entered.
+    fn reached(&self, budget: u32) -> Option<u32> {
+        let (mut first, mut after, mut left) = (0, 1024, budget);
+        let count =
+            |first, after| probe_count(&self.part, &self.ray, first, after).expect("a tree");
+        if self.count <= budget {
+            return None;
+        }
+        while left > 0 {
+            left -= 1;
+            let middle = (first + after) / 2;
+            let left_half = count(first, middle);
+            if left_half > left {
+                after = middle;
+            } else {
+                left -= left_half;
+                first = middle;
+            }
+        }
+        Some(first)
+    }
+
+    fn check_first_hit(&self, budget: u32) {
+        let hit = first_hit(&self.file, &self.ray, budget);
+        let mut marks = [9; 1024];
+        let cast = full_cast(&self.file, &self.ray, budget, &mut marks);
+        let first = self.alone.iter().position(|&m| m != 0);
+        match hit {
+            FirstHit::Hit { tick, mark, probes } => {
+                assert_eq!(first, Some(tick as usize));
+                assert_eq!(mark.byte(), self.alone[tick as usize]);
+                assert!(Some(probes) <= cast.probes());
+                let fewer = first_hit(&self.file, &self.ray, probes - 1);
+                assert!(matches!(fewer, FirstHit::Spent { .. }));
+            }
+            FirstHit::Clear { probes } => {
+                assert_eq!(first, None);
+                assert_eq!(cast, FullCast::Complete { probes });
+            }
+            FirstHit::Spent { probes, tick } => {
+                assert!(first.is_none_or(|t| t >= tick as usize));
+                assert_eq!(probes, budget);
+                assert_eq!(cast, FullCast::Spent { probes, tick });
+            }
+            FirstHit::Refused(number) => panic!("refused {number}"),
+        }
+        assert!(budget < self.count || !matches!(hit, FirstHit::Spent { .. }));
+    }
+
+    /// The probes of a first hit: all spans that begin before the hit's tick
+    /// and those that hold it, down to the one that settles it.
+    fn hit_probes(&self, first: u32, after: u32, tick: u32) -> u32 {
+        let bounds = tick_bounds(&self.part.nodes, &self.ray, first, after).expect("a tree");
+        let settled = judge(bounds, self.part.iso) != Mark::Crossing || after - first == 1;
+        if first > tick {
+            return 0;
+        }
+        if settled {
+            return 1;
+        }
+        let middle = (first + after) / 2;
+        let left = self.hit_probes(first, middle, tick);
+        if tick < middle {
+            1 + left
+        } else {
+            1 + left + self.hit_probes(middle, after, tick)
+        }
+    }
+
+    fn check_column(&self) {
+        let mut bits = [9; 130];
+        let done = column(&self.file, &self.ray, &mut bits);
+        let probes = self.count;
+        assert_eq!(done, Column::Done { probes });
+        for t in 0..1024 {
+            let bit = bits[t / 8] >> (t % 8) & 1;
+            assert_eq!(bit == 1, self.alone[t] != 0, "tick {t}");
+        }
+        assert_eq!(bits[128..], [9, 9]);
+        if let FirstHit::Hit { tick, probes, .. } = first_hit(&self.file, &self.ray, u32::MAX) {
+            assert_eq!(probes, self.hit_probes(0, 1024, tick));
+        }
+    }
+}
+
+fn run(seed: u64, shape: &Shape, count: usize) {
+    let mut random = SplitMix64::new(seed);
+    for style in STYLES {
+        for _ in 0..count {
+            let part = generate::part(&mut random, shape);
+            let ray = generate::ray(&mut random, &part, style);
+            Case::new(part, ray).check();
+        }
+    }
+}
+
+#[test]
+fn few_points() {
+    let shape = Shape {
+        points: (1, 4),
+        reach: 500,
+        radius: (50, 1024),
+        weight: (-6, 30),
+        iso: (1, 6),
+    };
+    run(41, &shape, 30);
+}
+
+#[test]
+fn small_radii() {
+    let shape = Shape {
+        points: (1, 6),
+        reach: 15,
+        radius: (1, 15),
+        weight: (-9, 40),
+        iso: (1, 5),
+    };
+    run(42, &shape, 30);
+}
+
+#[test]
+fn large_weights() {
+    let shape = Shape {
+        points: (2, 6),
+        reach: 300,
+        radius: (200, 1024),
+        weight: (-4096, 4096),
+        iso: (1, 300),
+    };
+    run(43, &shape, 20);
+}
+
+#[test]
+fn deep_trees() {
+    let shape = Shape {
+        points: (10, 30),
+        reach: 700,
+        radius: (50, 600),
+        weight: (-5, 12),
+        iso: (1, 4),
+    };
+    run(44, &shape, 3);
+}
+
+/// Two large points that cancel keep every tick undecided: the most probes.
+#[test]
+fn most_probes() {
+    let file = FileBuilder::new(1)
+        .point(1024, [0; 3], 4096)
+        .point(1024, [0; 3], -4096)
+        .sum()
+        .point(1024, [0; 3], 4096)
+        .sum()
+        .point(1024, [0; 3], -4095)
+        .sum()
+        .build();
+    let ray = Ray {
+        a: [100, 0, 0],
+        b: [700, 0, 0],
+    };
+    let mut marks = [9; 1024];
+    for budget in [2047, 2048, u32::MAX] {
+        let cast = full_cast(&file, &ray, budget, &mut marks);
+        assert_eq!(cast, FullCast::Complete { probes: 2047 });
+        assert_eq!(cast.number(), 65_536 + 2047);
+        assert_eq!(marks, [1; 1024]);
+    }
+    let cast = full_cast(&file, &ray, 2046, &mut marks);
+    let (probes, tick) = (2046, 1023);
+    assert_eq!(cast, FullCast::Spent { probes, tick });
+    assert_eq!(marks[1022..], [1, 3]);
+    let probes = 11;
+    let mark = Mark::Crossing;
+    let hit = FirstHit::Hit {
+        tick: 0,
+        mark,
+        probes,
+    };
+    assert_eq!(first_hit(&file, &ray, 2047), hit);
+}
+
+/// A solid in the right half of an undecided span does not come before a
+/// crossing in its left half.
+#[test]
+fn left_half_first() {
+    let file = FileBuilder::new(1)
+        .point(40, [-500, 0, 0], 2)
+        .point(700, [900, 0, 0], 4000)
+        .greater()
+        .build();
+    let ray = Ray {
+        a: [-1000, 0, 0],
+        b: [1000, 0, 0],
+    };
+    let case = Case::new(read(&file).expect("accepted"), ray);
+    case.check();
+    let hit = first_hit(&file, &ray, 2047);
+    assert!(matches!(hit, FirstHit::Hit { tick, .. } if tick < 300));
+}
