@@ -10,46 +10,34 @@ fn file_k() -> Vec<u8> {
     FileBuilder::new(1).point(512, [0; 3], 4).build()
 }
 
+/// Bits of NaNs, infinities, the greatest finite floats, subnormals and the
+/// least normal floats.
+const SPECIAL: [u32; 17] = [
+    0x7fc0_0000,
+    0xffc0_0000,
+    0x7f80_0001,
+    0xff80_0001,
+    0x7fff_ffff,
+    0xffff_ffff,
+    0x7f80_0000,
+    0xff80_0000,
+    0x7f7f_ffff,
+    0xff7f_ffff,
+    0x0000_0001,
+    0x8000_0001,
+    0x007f_ffff,
+    0x807f_ffff,
+    0x0040_0000,
+    0x0080_0000,
+    0x8080_0000,
+];
+
 /// Floats whose 64-fold is no step.
 fn refused_floats() -> Vec<f32> {
-    let bits = [
-        0x7fc0_0000, // quiet NaN
-        0xffc0_0000,
-        0x7f80_0001, // signalling NaN
-        0xff80_0001,
-        0x7fff_ffff,
-        0xffff_ffff,
-        0x7f80_0000, // infinities
-        0xff80_0000,
-        0x7f7f_ffff, // greatest finite
-        0xff7f_ffff,
-        0x0000_0001, // least subnormal
-        0x8000_0001,
-        0x007f_ffff, // greatest subnormal
-        0x807f_ffff,
-        0x0040_0000,
-        0x0080_0000, // least normal
-        0x8080_0000,
-    ];
-    let mut floats: Vec<f32> = bits.iter().map(|&b| f32::from_bits(b)).collect();
-    floats.extend([
-        32.0,
-        -32.0,
-        33.0,
-        64.0,
-        2047.0,
-        1e10,
-        -1e10,
-        1e38,
-        0.1,
-        1.0 / 128.0,
-    ]);
-    floats.extend([
-        16_777_216.0,
-        4_294_967_296.0,
-        -4_294_967_296.0,
-        67_108_864.0,
-    ]);
+    let mut floats: Vec<f32> = SPECIAL.iter().map(|&b| f32::from_bits(b)).collect();
+    floats.extend([32.0, -32.0, 33.0, 64.0, 2047.0, 0.1, 1.0 / 128.0]);
+    floats.extend([1e10, -1e10, 1e38, 16_777_216.0, 67_108_864.0]);
+    floats.extend([4_294_967_296.0, -4_294_967_296.0]);
     floats
 }
 
