@@ -270,3 +270,30 @@ fn left_half_first() {
     let hit = first_hit(&file, &ray, 2047);
     assert!(matches!(hit, FirstHit::Hit { tick, .. } if tick < 300));
 }
+
+/// With r 128, w 4 and iso 1 the field at y = 64 is exactly iso at x = -64
+/// and x = 64, where ticks meet: the ticks between them are inside, the
+/// ticks next to them crossing.
+#[test]
+fn a_field_equal_to_iso_is_solid() {
+    let file = FileBuilder::new(1).point(128, [0; 3], 4).build();
+    let ray = Ray {
+        a: [-512, 64, 0],
+        b: [512, 64, 0],
+    };
+    let mut expected = [0; 1024];
+    expected[448..576].fill(2);
+    expected[447] = 1;
+    expected[576] = 1;
+    let mut marks = [9; 1024];
+    full_cast(&file, &ray, 2047, &mut marks);
+    assert_eq!(marks, expected);
+    Case::new(read(&file).expect("accepted"), ray).check();
+    let inner = Ray {
+        a: [-64, 64, 0],
+        b: [64, 64, 0],
+    };
+    let (tick, mark, probes) = (0, Mark::Inside, 1);
+    let hit = FirstHit::Hit { tick, mark, probes };
+    assert_eq!(first_hit(&file, &inner, 1), hit);
+}
