@@ -107,11 +107,16 @@ fn exercise(random: &mut SplitMix64, file: &[u8], ray: &Ray) -> bool {
             assert!(hit.probes() <= cast.probes());
         }
     }
+    let mut bits = [0xa5; 130];
+    let done = column(file, ray, &mut bits);
+    let written = if done.probes().is_some() { 128 } else { 0 };
+    assert!(bits[written..].iter().all(|&b| b == 0xa5));
+    let at = bounds_at(file, ray.a);
     if let Err(number) = check(file) {
         assert_eq!(cast, FullCast::Refused(number));
-        assert_eq!(column(file, ray, &mut buffer).number(), number);
+        assert_eq!(done.number(), number);
         assert_eq!(hit.number(), u64::from(number));
-        assert_eq!(bounds_at(file, ray.a), Err(number));
+        assert_eq!(at, Err(number));
     }
     let view = ViewRay {
         a: ray.a.map(|c| c as f32 / 64.0),
