@@ -9,7 +9,7 @@
 //! - [`view`]: the viewer's first hit.
 //! - [`lister`]: the ray lister's text.
 //! - [`totals`]: the running totals.
-//! - [`generate`]: repeatable pseudo-random trees and rays for tests.
+//! - [`generate`]: repeatable pseudo-random trees, rays and damaged files.
 
 #![forbid(unsafe_code)]
 #![warn(missing_docs)]

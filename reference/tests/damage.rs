@@ -3,9 +3,9 @@
 
 use reference::cast::{bounds_at, column, first_hit, full_cast, FullCast};
 use reference::field::Ray;
-use reference::generate::{self, Shape, SplitMix64, STYLES};
+use reference::generate::{self, mutate, random_bytes, random_records, Shape, SplitMix64, STYLES};
 use reference::lister::list;
-use reference::part::{check, operator_record, point_record, FileBuilder, Part, FILE_MARK};
+use reference::part::{check, FileBuilder, Part};
 use reference::view::{viewer_first_hit, ViewRay};
 
 const SHAPE: Shape = Shape {
@@ -21,60 +21,6 @@ fn random_part(random: &mut SplitMix64) -> (Part, Vec<u8>) {
     let length = random.pick(&[0, 0, 1, 12, 50]);
     let file = FileBuilder::from(&part).leading(&vec![3; length]).build();
     (part, file)
-}
-
-/// Bytes of any content.
-fn random_bytes(random: &mut SplitMix64) -> Vec<u8> {
-    let length = random.pick(&[0, 1, 11, 12, 23, 24, 36, 60, 300]);
-    let mut bytes: Vec<u8> = (0..length).map(|_| random.next_u64() as u8).collect();
-    if random.one_in(2) {
-        let version = random.pick(&[0, 1, 1, 1]);
-        bytes.extend([1, 0, version, 0, random.pick(&[24, 36, 48, 49]), 0, 0, 0]);
-        bytes.extend(FILE_MARK);
-    }
-    bytes
-}
-
-/// Records drawn one by one, each right more often than not, under a trailer
-/// that is right more often than not.
-fn random_records(random: &mut SplitMix64) -> Vec<u8> {
-    let mut builder = FileBuilder::new(random.pick(&[0, 1, 2, 4096, 4097]));
-    for _ in 0..random.pick(&[1, 2, 3, 3, 5, 8, 70]) {
-        let centre = [0; 3].map(|_: i16| random.between(-2060, 2060) as i16);
-        let mut record = match random.between(0, 9) {
-            0 => operator_record(random.pick(&[0, 4, 255])),
-            1..=4 => operator_record(random.pick(&[2, 3])),
-            _ => point_record(random.between(0, 1030) as u16, centre, 40),
-        };
-        if random.one_in(20) {
-            record[random.between(0, 11) as usize] = random.next_u64() as u8;
-        }
-        builder = builder.raw(record);
-    }
-    builder.build()
-}
-
-/// One or two changes: a byte, a bit, a cut, a doubled piece.
-fn mutate(random: &mut SplitMix64, file: &mut Vec<u8>) {
-    for _ in 0..random.between(1, 2) {
-        let last = file.len() as i64 - 1;
-        if last < 0 {
-            return;
-        }
-        let at = random.between(0, last) as usize;
-        match random.between(0, 12) {
-            0 => file[at] = random.next_u64() as u8,
-            1 => file[at] ^= 1 << random.between(0, 7),
-            2 => file.truncate(at),
-            3 => drop(file.remove(at)),
-            4 => file.insert(at, random.next_u64() as u8),
-            5..=10 => file[at] = file[at].wrapping_add(random.between(0, 1) as u8),
-            _ => {
-                let copy: Vec<u8> = file[at..].iter().take(12).copied().collect();
-                file.splice(at..at, copy);
-            }
-        }
-    }
 }
 
 fn random_ray(random: &mut SplitMix64, part: &Part) -> Ray {
