@@ -1,0 +1,64 @@
+-- Tests as facts, and back: `and-true`, `between-true` and the like take a test that is true (or false) to what it says.
+-- `between-true 24 65536 n e : (24 ≤ n) × (n ≤ 65536)`, from `e : between 24 65536 n ≡ true`.
+-- Tests of one pair of natural numbers are in `borrow.Author.Tests` (`leb-true`, `le-leb`, ..).
+use mathlib.Core.Path.{_≡_, refl, sym, ap, ap₂, _∙_}
+use mathlib.Core.Bool.{Bool, true, false, _&&_, false≢true}
+use Prim.Native.Nat.{ℕ, zero, suc, _≤_}
+use borrow.Author.Tests.{leb-true, le-leb}
+use lib.Dec.{leb, leb·zero, leb·suc-zero, leb·suc-suc}
+use lib.IntN.{ℤ, pos, negsuc, negℤ, natAbs}
+use lib.Signed.{leZ, ltZ, _≤ℤ_, _<ℤ_, leZ-yes, ltZ-yes, ltZ-no}
+use Rattle.exact.specs.Range.{between, betweenℤ, Small, Small3}
+use Rattle.exact.proofs.Order.{leZ-no}
+
+-- ---- two tests
+
+pub and-true : (a b : Bool) → (a && b) ≡ true → (a ≡ true) × (b ≡ true)
+and-true true b e = (refl, e)
+and-true false b e = absurd (false≢true e)
+
+pub true-and : {a b : Bool} → a ≡ true → b ≡ true → (a && b) ≡ true
+true-and e f = rw (e, f)
+
+-- ---- the order of ℤ
+
+pub leZ-true : (a b : ℤ) → leZ a b ≡ true → a ≤ℤ b
+leZ-true a b e = leZ-yes (rw e tt)
+
+pub leZ-false : (a b : ℤ) → leZ a b ≡ false → b <ℤ a
+leZ-false a b e = leZ-no (rw e tt)
+
+pub ltZ-true : (a b : ℤ) → ltZ a b ≡ true → a <ℤ b
+ltZ-true a b e = ltZ-yes (rw e tt)
+
+pub ltZ-false : (a b : ℤ) → ltZ a b ≡ false → b ≤ℤ a
+ltZ-false a b e = ltZ-no (rw e tt)
+
+-- ---- ranges
+
+pub between-true : (lo hi n : ℕ) → between lo hi n ≡ true → (lo ≤ n) × (n ≤ hi)
+between-true lo hi n e = let p = and-true (leb lo n) (leb n hi) e in (leb-true lo n (p .0), leb-true n hi (p .1))
+
+pub true-between : (lo hi n : ℕ) → lo ≤ n → n ≤ hi → between lo hi n ≡ true
+true-between lo hi n h k = true-and (le-leb lo n h) (le-leb n hi k)
+
+pub betweenℤ-true : (lo hi z : ℤ) → betweenℤ lo hi z ≡ true → (lo ≤ℤ z) × (z ≤ℤ hi)
+betweenℤ-true lo hi z e = let p = and-true (leZ lo z) (leZ z hi) e in (leZ-true lo z (p .0), leZ-true z hi (p .1))
+
+-- ---- from −k to k
+
+pub within : (k : ℕ) (z : ℤ) → betweenℤ (negℤ (pos k)) (pos k) z ≡ leb (natAbs z) k
+within zero (pos n) = rw (leb·zero n)
+within zero (negsuc n) = sym (leb·suc-zero n)
+within (suc k) (pos n) = refl
+within (suc k) (negsuc n) = and-yes′ (leb n k) ∙ sym (leb·suc-suc n k)
+  where
+    and-yes′ : (b : Bool) → (b && true) ≡ b
+    and-yes′ true = refl
+    and-yes′ false = refl
+
+pub within-small : (k : ℕ) (z : ℤ) → betweenℤ (negℤ (pos k)) (pos k) z ≡ true → Small k z
+within-small k z e = record { abs = leb-true (natAbs z) k (sym (within k z) ∙ e) }
+
+pub small-within : {k : ℕ} {z : ℤ} → Small k z → betweenℤ (negℤ (pos k)) (pos k) z ≡ true
+small-within {k} {z} h = within k z ∙ le-leb (natAbs z) k (h .abs)

@@ -1,0 +1,34 @@
+// Small functions on plain numbers and bools that several crates call.
+
+ghost use mathlib.Core.Path.{_≡_};
+ghost use mathlib.Core.Bool.{_&&_};
+ghost use Prim.Native.Nat.{_<_};
+ghost use Rattle.exact.specs.Range.{between, betweenℤ};
+
+// A byte as a wider number.
+pub fn wide(x: u8) -> usize
+    ensures { λ r. ⌜ (r ≡ x) × (r < 256) ⌝ }
+{
+    x as usize
+}
+
+// Whether both hold. Unlike `a && b` it makes no branch in the caller.
+pub fn both(a: bool, b: bool) -> bool
+    ensures { λ r. ⌜ r ≡ (a && b) ⌝ }
+{
+    if a { b } else { false }
+}
+
+// Whether n is from low to high.
+pub fn is_between(low: usize, high: usize, n: usize) -> bool
+    ensures { λ r. ⌜ r ≡ between low high n ⌝ }
+{
+    low <= n && n <= high
+}
+
+// The same of signed numbers.
+pub fn is_between_signed(low: i32, high: i32, z: i32) -> bool
+    ensures { λ r. ⌜ r ≡ betweenℤ low high z ⌝ }
+{
+    low <= z && z <= high
+}
