@@ -1,9 +1,9 @@
 -- Ranges: tests that a number is from one number to another, and bounds of an integer's size.
 -- `between 24 65536 (length file)` asks whether a file has 24 to 65536 bytes; `Small 4096 w` says that w is from −4096 to 4096.
-use mathlib.Core.Bool.{Bool, _&&_}
+use mathlib.Core.Bool.{Bool, false, _&&_}
 use Prim.Native.Nat.{ℕ, _≤_}
-use lib.Dec.{leb}
-use lib.IntN.{ℤ, natAbs}
+use lib.Dec.{leb, eqb}
+use lib.IntN.{ℤ, pos, negsuc, natAbs}
 use lib.Signed.{leZ}
 
 -- is n from lo to hi?
@@ -13,6 +13,11 @@ between lo hi n = leb lo n && leb n hi
 -- is z from lo to hi?
 abbrev pub betweenℤ : ℤ → ℤ → ℤ → Bool
 betweenℤ lo hi z = leZ lo z && leZ z hi
+
+-- is z the natural number n?
+abbrev pub isNum : ℤ → ℕ → Bool
+isNum (pos m) n = eqb m n
+isNum (negsuc m) n = false
 
 -- z is from −k to k (a record, so that z can be inferred from a hypothesis)
 pub record Small (k : ℕ) (z : ℤ) : Type 0 where
