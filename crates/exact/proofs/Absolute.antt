@@ -5,7 +5,7 @@ use Prim.Native.Nat.{ℕ, zero, suc, _+_, _*_, _≤_}
 use lib.IntN.{ℤ, pos, negsuc, negℤ, natAbs, _+ℤ_, _-ℤ_, _*ℤ_}
 use lib.Signed.{mag, _≤ℤ_}
 use native.Mathlib.Omega.{arith}
-use Rattle.exact.proofs.Linear.{cross, uncross, add-parts, neg-parts, sub-parts, natAbs-parts}
+use Rattle.exact.proofs.Linear.{cross, uncross, uncross-eq, add-parts, neg-parts, sub-parts, natAbs-parts}
 
 pub natAbs-neg : (a : ℤ) → natAbs (negℤ a) ≡ natAbs a
 natAbs-neg (pos zero) = refl
@@ -32,6 +32,10 @@ natAbs-add a b = omega (arith, add-parts a b, natAbs-parts a, natAbs-parts b, na
 
 pub natAbs-sub : (a b : ℤ) → natAbs (a -ℤ b) ≤ natAbs a + natAbs b
 natAbs-sub a b = omega (arith, sub-parts a b, natAbs-parts a, natAbs-parts b, natAbs-parts (a -ℤ b))
+
+-- of a number that is not negative it is the number itself (`pos-natAbs` of `lib.Signed`), of one that is not positive its negation
+pub pos-natAbs-neg : {a : ℤ} → a ≤ℤ pos 0 → pos (natAbs a) ≡ negℤ a
+pos-natAbs-neg {a} h = uncross-eq (pos (natAbs a)) (negℤ a) (omega (arith, cross h, neg-parts a, natAbs-parts a))
 
 pub natAbs-sq : (a : ℤ) → pos (natAbs a * natAbs a) ≡ a *ℤ a
 natAbs-sq (pos n) = refl

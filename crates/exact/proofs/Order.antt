@@ -106,6 +106,10 @@ pub mul-mono-l : {a b c : ℤ} → pos 0 ≤ℤ c → a ≤ℤ b → (c *ℤ a) 
 mul-mono-l {a} {b} {c} k h =
     le-by (c *ℤ a) (c *ℤ (b -ℤ a)) (nn-mul k (sub-nn h)) (ring 3 (λ a b c. c ⊗ b ≔ c ⊗ a ⊕ c ⊗ (b ⊖ a)) tt a b c)
 
+pub mul-anti-l : {a b c : ℤ} → c ≤ℤ pos 0 → a ≤ℤ b → (c *ℤ b) ≤ℤ (c *ℤ a)
+mul-anti-l {a} {b} {c} k h =
+    le-by (c *ℤ b) ((pos 0 -ℤ c) *ℤ (b -ℤ a)) (nn-mul (sub-nn k) (sub-nn h)) (ring 3 (λ a b c. c ⊗ a ≔ c ⊗ b ⊕ (# 0 ⊖ c) ⊗ (b ⊖ a)) tt a b c)
+
 pub mul-mono : {a b c d : ℤ} → pos 0 ≤ℤ a → a ≤ℤ b → pos 0 ≤ℤ c → c ≤ℤ d → (a *ℤ c) ≤ℤ (b *ℤ d)
 mul-mono ha h hc k = ≤ℤ-trans (mul-mono-r h hc) (mul-mono-l (≤ℤ-trans ha h) k)
 

@@ -2,7 +2,8 @@
 -- `between-true 24 65536 n e : (24 ≤ n) × (n ≤ 65536)`, from `e : between 24 65536 n ≡ true`.
 -- Tests of one pair of natural numbers are in `borrow.Author.Tests` (`leb-true`, `le-leb`, ..).
 use mathlib.Core.Path.{_≡_, refl, sym, ap, ap₂, _∙_}
-use mathlib.Core.Bool.{Bool, true, false, _&&_, false≢true}
+use mathlib.Core.Logic.{_⊎_, inl, inr}
+use mathlib.Core.Bool.{Bool, true, false, cond, _&&_, false≢true}
 use Prim.Native.Nat.{ℕ, zero, suc, _≤_}
 use borrow.Author.Tests.{leb-true, le-leb}
 use lib.Dec.{leb, leb·zero, leb·suc-zero, leb·suc-suc}
@@ -11,7 +12,7 @@ use lib.Signed.{leZ, ltZ, _≤ℤ_, _<ℤ_, leZ-yes, ltZ-yes, ltZ-no}
 use Rattle.exact.specs.Range.{between, betweenℤ, Small, Small3}
 use Rattle.exact.proofs.Order.{leZ-no}
 
--- ---- two tests
+-- ---- any test
 
 pub and-true : (a b : Bool) → (a && b) ≡ true → (a ≡ true) × (b ≡ true)
 and-true true b e = (refl, e)
@@ -19,6 +20,11 @@ and-true false b e = absurd (false≢true e)
 
 pub true-and : {a b : Bool} → a ≡ true → b ≡ true → (a && b) ≡ true
 true-and e f = rw (e, f)
+
+-- which of two a test picks
+pub cond-is {ℓ} : {A : Type ℓ} (t : Bool) (x y : A) → ((t ≡ true) × (cond t x y ≡ x)) ⊎ ((t ≡ false) × (cond t x y ≡ y))
+cond-is true x y = inl (refl, refl)
+cond-is false x y = inr (refl, refl)
 
 -- ---- the order of ℤ
 
