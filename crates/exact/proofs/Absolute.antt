@@ -1,6 +1,7 @@
 -- The size of an integer, `natAbs` of `lib.IntN`, under the operations and the order.
 -- `natAbs-add a b : natAbs (a +ℤ b) ≤ natAbs a + natAbs b`.
 use mathlib.Core.Path.{_≡_, refl, subst}
+use mathlib.Core.Logic.{_⊎_, inl, inr}
 use Prim.Native.Nat.{ℕ, zero, suc, _+_, _*_, _≤_}
 use lib.IntN.{ℤ, pos, negsuc, negℤ, natAbs, _+ℤ_, _-ℤ_, _*ℤ_}
 use lib.Signed.{mag, _≤ℤ_}
@@ -36,6 +37,10 @@ natAbs-sub a b = omega (arith, sub-parts a b, natAbs-parts a, natAbs-parts b, na
 -- of a number that is not negative it is the number itself (`pos-natAbs` of `lib.Signed`), of one that is not positive its negation
 pub pos-natAbs-neg : {a : ℤ} → a ≤ℤ pos 0 → pos (natAbs a) ≡ negℤ a
 pos-natAbs-neg {a} h = uncross-eq (pos (natAbs a)) (negℤ a) (omega (arith, cross h, neg-parts a, natAbs-parts a))
+
+pub natAbs-is : (a : ℤ) → (pos (natAbs a) ≡ a) ⊎ (pos (natAbs a) ≡ negℤ a)
+natAbs-is (pos n) = inl refl
+natAbs-is (negsuc n) = inr refl
 
 pub natAbs-sq : (a : ℤ) → pos (natAbs a * natAbs a) ≡ a *ℤ a
 natAbs-sq (pos n) = refl

@@ -104,6 +104,9 @@ module _ {w : Width} {a b : ℤ} (fa : SFits w a) (fb : SFits w b) where
   pub op-read : {A : Type 0} (f : ℤ → ℤ → A) → f (back w a) (back w b) ≡ f a b
   op-read f = ap₂ f (toZ-ofZ fa) (toZ-ofZ fb)
 
+  pub op-known : {A : Type 0} (f : ℤ → ℤ → A) {t : A} → f (back w a) (back w b) ≡ t → f a b ≡ t
+  op-known f e = sym (op-read f) ∙ e
+
   pub op-fits : (f : ℤ → ℤ → ℤ) → SFits w (f a b) → SFits w (f (back w a) (back w b))
   op-fits f h = subst (SFits w) (sym (op-read f)) h
 
