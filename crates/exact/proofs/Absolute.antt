@@ -1,11 +1,11 @@
 -- The size of an integer, `natAbs` of `lib.IntN`, under the operations and the order.
 -- `natAbs-add a b : natAbs (a +ℤ b) ≤ natAbs a + natAbs b`.
-use mathlib.Core.Path.{_≡_, refl, subst}
+use mathlib.Core.Path.{_≡_, refl}
 use mathlib.Core.Logic.{_⊎_, inl, inr}
 use Prim.Native.Nat.{ℕ, zero, suc, _+_, _*_, _≤_}
-use lib.IntN.{ℤ, pos, negsuc, negℤ, natAbs, _+ℤ_, _-ℤ_, _*ℤ_}
-use lib.Signed.{mag, _≤ℤ_}
 use native.Mathlib.Omega.{arith}
+use lib.IntN.{ℤ, pos, negsuc, negℤ, natAbs, _+ℤ_, _-ℤ_, _*ℤ_}
+use lib.Signed.{mag, _≤ℤ_, pos-natAbs, yes-nonNeg}
 use Rattle.exact.proofs.Linear.{cross, uncross, uncross-eq, add-parts, neg-parts, sub-parts, natAbs-parts}
 
 pub natAbs-neg : (a : ℤ) → natAbs (negℤ a) ≡ natAbs a
@@ -34,7 +34,10 @@ natAbs-add a b = omega (arith, add-parts a b, natAbs-parts a, natAbs-parts b, na
 pub natAbs-sub : (a b : ℤ) → natAbs (a -ℤ b) ≤ natAbs a + natAbs b
 natAbs-sub a b = omega (arith, sub-parts a b, natAbs-parts a, natAbs-parts b, natAbs-parts (a -ℤ b))
 
--- of a number that is not negative it is the number itself (`pos-natAbs` of `lib.Signed`), of one that is not positive its negation
+-- of a number that is not negative, and of one that is not positive
+pub pos-natAbs-nn : {a : ℤ} → pos 0 ≤ℤ a → pos (natAbs a) ≡ a
+pos-natAbs-nn {a} h = pos-natAbs a (yes-nonNeg h)
+
 pub pos-natAbs-neg : {a : ℤ} → a ≤ℤ pos 0 → pos (natAbs a) ≡ negℤ a
 pos-natAbs-neg {a} h = uncross-eq (pos (natAbs a)) (negℤ a) (omega (arith, cross h, neg-parts a, natAbs-parts a))
 
@@ -45,10 +48,6 @@ natAbs-is (negsuc n) = inr refl
 pub natAbs-sq : (a : ℤ) → pos (natAbs a * natAbs a) ≡ a *ℤ a
 natAbs-sq (pos n) = refl
 natAbs-sq (negsuc n) = refl
-
--- x y ≤ |x| |y|
-pub mul-le-natAbs : (x y : ℤ) → (x *ℤ y) ≤ℤ (pos (natAbs x) *ℤ pos (natAbs y))
-mul-le-natAbs x y = subst (λ (n : ℕ). (x *ℤ y) ≤ℤ pos n) (natAbs-mul x y) (le-natAbs (x *ℤ y))
 
 -- what the range of a signed width bounds
 pub mag-le-natAbs : (a : ℤ) → mag a ≤ natAbs a

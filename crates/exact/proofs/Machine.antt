@@ -118,8 +118,8 @@ module _ {w : Width} {a b : ℤ} (fa : SFits w a) (fb : SFits w b) where
 pub bits-inj : {w : Width} {a b : ℤ} → SFits w a → SFits w b → ofZ w a ≡ ofZ w b → a ≡ b
 bits-inj {w} f g e = sym (toZ-ofZ f) ∙ ap (toZ w) e ∙ toZ-ofZ g
 
-pub is-num : {w : Width} {z : ℤ} (n : ℕ) → T (ltb n (2 ^ hbits w)) → SFits w z → ofZ w z ≡ n → isNum z n ≡ true
-is-num {w} {z} n t f e =
+pub is-num : (w : Width) (z : ℤ) (n : ℕ) → T (ltb n (2 ^ hbits w)) → SFits w z → ofZ w z ≡ n → isNum z n ≡ true
+is-num w z n t f e =
     let e′ : z ≡ pos n = bits-inj f (fit-u (le-refl n) t) e in
     rw e′ (eq-eqb n n refl)
 

@@ -122,11 +122,6 @@ mul-mono-lt {a} {b} {c} l k =
 pub mul-cancel-le : {a b c : ℤ} → pos 0 <ℤ c → (a *ℤ c) ≤ℤ (b *ℤ c) → a ≤ℤ b
 mul-cancel-le {a} {b} k h = elim (le-or-lt a b) [ inl l ↦ l | inr l ↦ clashℤ (mul-mono-lt l k) h ]
 
--- a product of two that are not positive
-pub nn-mul-neg : {a b : ℤ} → a ≤ℤ pos 0 → b ≤ℤ pos 0 → pos 0 ≤ℤ (a *ℤ b)
-nn-mul-neg {a} {b} h k =
-    subst (λ (x : ℤ). pos 0 ≤ℤ x) (ring 2 (λ a b. (# 0 ⊖ a) ⊗ (# 0 ⊖ b) ≔ a ⊗ b) tt a b) (nn-mul (sub-nn h) (sub-nn k))
-
 -- ---- the embedding of ℕ
 
 pub pos-inj : {a b : ℕ} → pos a ≡ pos b → a ≡ b

@@ -6,14 +6,6 @@ use native.Mathlib.Nat.{le-trans, le-of-eq, mul-assoc, mul-right-comm, mul-le-mu
 use native.Mathlib.Omega.{arith}
 use Rattle.exact.specs.Rounding.{ceil}
 
--- x/b is less than 1 below x, and ⌈x/b⌉ less than 1 above
-pub floor-within : (x b : ℕ) → 0 < b → x ≤ x / b * b + b
-floor-within x b h = let k : x < x / b * b + b = lt-div-mul-add h in omega arith
-
-pub ceil-within : (x b : ℕ) → ceil x b * b ≤ x + b
-unfolding ceil
-ceil-within x b = le-trans (div-mul-le-self (x + (b - 1)) b) (omega arith)
-
 -- x ≤ ⌈x/b⌉ b, and ⌈x/b⌉ is the least such
 pub le-ceil : (x b : ℕ) → 0 < b → x ≤ ceil x b * b
 unfolding ceil
@@ -25,6 +17,14 @@ ceil-least x b q h l =
     let e : suc q * b ≡ q * b + b = suc-mul q b in
     let k : (x + (b - 1)) / b < suc q = div-lt-iff-lt-mul h .1 (omega arith) in
     omega arith
+
+-- rounding moves a quotient by less than 1, down and up
+pub floor-within : (x b : ℕ) → 0 < b → x ≤ x / b * b + b
+floor-within x b h = let k : x < x / b * b + b = lt-div-mul-add h in omega arith
+
+pub ceil-within : (x b : ℕ) → ceil x b * b ≤ x + b
+unfolding ceil
+ceil-within x b = le-trans (div-mul-le-self (x + (b - 1)) b) (omega arith)
 
 -- ---- the order of fractions: a/b ≤ c/d is a d ≤ c b
 
