@@ -13,7 +13,7 @@ use Rattle.exact.proofs.Ring.{Ex, _⊕_, _⊖_, ⊝_, _⊗_, #, _≔_, 
 use Rattle.exact.proofs.Order.{nn-sq, nn-pos, ≤ℤ-trans, ≤ℤ-of-eq, mul-mono-l, pos-mono, pos-reflect}
 use Rattle.exact.proofs.Extrema.{le-max-l, le-max-r, max-le, min-le-l, min-le-r, pos-max, pos-min}
 use Rattle.exact.proofs.Certificates.{_≦_by_, le, nn}
-use Rattle.exact.proofs.Convex.{quad-max, quad-rising, quad-falling}
+use Rattle.exact.proofs.Convex.{quadE, quad-max, quad-rising, quad-falling}
 
 -- `dist` as an expression of the solver
 abbrev pub distE : Ex → Ex → Ex → Ex → Ex → Ex
@@ -24,14 +24,14 @@ abbrev pub FootOutside : ℤ → ℤ → ℤ → ℤ → ℤ → Type 0
 FootOutside m a i j T = (negℤ (m *ℤ T) ≤ℤ (i *ℤ a)) ⊎ ((j *ℤ a) ≤ℤ negℤ (m *ℤ T))
 
 -- d² dist(t/T) and T² dist(n/d) are one quadratic, at t d and at T n
-abbrev both : ℤ → ℤ → ℤ → ℤ → ℤ → ℤ → ℤ
-both e m a T d x = quad (e *ℤ T *ℤ T *ℤ d *ℤ d) (pos 2 *ℤ m *ℤ d *ℤ T) a x
+abbrev common : ℤ → ℤ → ℤ → ℤ → ℤ → ℤ → ℤ
+common e m a T d x = quad (e *ℤ T *ℤ T *ℤ d *ℤ d) (pos 2 *ℤ m *ℤ d *ℤ T) a x
 
-at-tick : (e m a t T d : ℤ) → d *ℤ d *ℤ dist e m a t T ≡ both e m a T d (t *ℤ d)
-at-tick = ring 6 (λ e m a t T d. d ⊗ d ⊗ distE e m a t T ≔ e ⊗ T ⊗ T ⊗ d ⊗ d ⊕ # 2 ⊗ m ⊗ d ⊗ T ⊗ (t ⊗ d) ⊕ a ⊗ (t ⊗ d) ⊗ (t ⊗ d)) tt
+at-tick : (e m a t T d : ℤ) → d *ℤ d *ℤ dist e m a t T ≡ common e m a T d (t *ℤ d)
+at-tick = ring 6 (λ e m a t T d. d ⊗ d ⊗ distE e m a t T ≔ quadE (e ⊗ T ⊗ T ⊗ d ⊗ d) (# 2 ⊗ m ⊗ d ⊗ T) a (t ⊗ d)) tt
 
-at-place : (e m a n d T : ℤ) → T *ℤ T *ℤ dist e m a n d ≡ both e m a T d (T *ℤ n)
-at-place = ring 6 (λ e m a n d T. T ⊗ T ⊗ distE e m a n d ≔ e ⊗ T ⊗ T ⊗ d ⊗ d ⊕ # 2 ⊗ m ⊗ d ⊗ T ⊗ (T ⊗ n) ⊕ a ⊗ (T ⊗ n) ⊗ (T ⊗ n)) tt
+at-place : (e m a n d T : ℤ) → T *ℤ T *ℤ dist e m a n d ≡ common e m a T d (T *ℤ n)
+at-place = ring 6 (λ e m a n d T. T ⊗ T ⊗ distE e m a n d ≔ quadE (e ⊗ T ⊗ T ⊗ d ⊗ d) (# 2 ⊗ m ⊗ d ⊗ T) a (T ⊗ n)) tt
 
 module _ (e m a i j T n d : ℤ) (ha : pos 0 ≤ℤ a) (hi : (i *ℤ d) ≤ℤ (T *ℤ n)) (hj : (T *ℤ n) ≤ℤ (j *ℤ d)) where
   pub dist-max : (T *ℤ T *ℤ dist e m a n d) ≤ℤ (d *ℤ d *ℤ maxℤ (dist e m a i T) (dist e m a j T))

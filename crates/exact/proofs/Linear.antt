@@ -1,5 +1,6 @@
 -- Linear facts about ℤ by `omega`: an integer is the difference of two natural numbers, `up` and `down`, and the order and the sum are theirs.
--- `uncross (omega (arith, cross h, cross k)) : a ≤ℤ c`, from `h : a ≤ℤ b` and `k : b ≤ℤ c`; a sum or a difference adds its `add-parts` or `sub-parts`.
+-- `uncross (omega (arith, cross h, cross k)) : a ≤ℤ c`, from `h : a ≤ℤ b` and `k : b ≤ℤ c`.
+-- Where a sum, a difference or a size is spoken of, its `add-parts`, `sub-parts` or `natAbs-parts` goes into the list.
 use mathlib.Core.Path.{_≡_, refl, ap}
 use mathlib.Core.Bool.{Bool, true, false, cond}
 use Prim.Native.Nat.{ℕ, zero, suc, _+_, _-_, _≤_, _<_, max}

@@ -1,11 +1,11 @@
 -- How fast the clamped depth R² − |p|² of a point p in a ball of radius R changes: between two points of ℤ³ by at most 2 R L,
 -- where L is the sum of the sizes of the three differences.
 -- `lipschitz R q s L x y z u v w eq es el : R * R - q ≤ R * R - s + 2 * R * L`, q and s being the squares of (x, y, z) and (u, v, w).
-use mathlib.Core.Path.{_≡_, refl, sym, ap₂}
+use mathlib.Core.Path.{_≡_, sym, ap₂}
 use mathlib.Core.Logic.{_⊎_, inl, inr}
 use Prim.Native.Nat.{ℕ, _+_, _*_, _-_, _≤_}
 use native.Mathlib.Omega.{arith}
-use lib.IntN.{ℤ, pos, negℤ, natAbs, _+ℤ_, _-ℤ_, _*ℤ_}
+use lib.IntN.{ℤ, pos, negℤ, _+ℤ_, _-ℤ_, _*ℤ_}
 use lib.Signed.{_≤ℤ_, _<ℤ_, clashℤ}
 use Rattle.exact.specs.Vector.{dot3, square3, size3}
 use Rattle.exact.proofs.Ring.{_⊕_, _⊖_, ⊝_, _⊗_, #}

@@ -4,13 +4,13 @@
 -- For x * y + 2, of x and y with `hx : Small 4096 x` and `hy : Small 4096 y`: `fit (read (param hx tt ⊠ param hy tt) tt ⊞ lit (pos 2)) tt`.
 use mathlib.Core.Path.{_≡_, refl, sym, ap, ap₂, _∙_, subst}
 use mathlib.Core.Bool.{Bool, true, false}
-use Prim.Native.Nat.{ℕ, _+_, _*_, _^_, _≤_, _<_}
+use Prim.Native.Nat.{ℕ, _+_, _*_, _^_, _≤_}
 use native.Mathlib.Nat.{mul-le-mul, le-trans, le-refl, add-le-add, lt-of-le-of-lt, le-of-eq}
 use borrow.Author.Tests.{eq-eqb, ne-eqb}
 use lib.Dec.{T, ltb, ltb→lt}
 use lib.IntN.{ℤ, pos, negsuc, natAbs, negℤ, _+ℤ_, _-ℤ_, _*ℤ_}
 use lib.Signed.{nonNeg, ltZ, leZ}
-use mir.Syntax.{Width, w64}
+use mir.Syntax.{Width}
 use mir.Val.{bits, hbits, Fits, SFits, toZ, ofZ}
 use mir.Facts.{toZ-ofZ, toZ-pos, fits-natAbs}
 use Rattle.exact.specs.Range.{Small, isNum}
@@ -20,6 +20,7 @@ use Rattle.exact.proofs.Absolute.{natAbs-neg, natAbs-add, natAbs-mul, m
 abbrev pub back : Width → ℤ → ℤ
 back w z = toZ w (ofZ w z)
 
+-- the range check computes: k is a numeral, and `tt` its proof
 pub small-fits : {w : Width} {k : ℕ} {z : ℤ} → Small k z → T (ltb k (2 ^ hbits w)) → SFits w z
 small-fits {w} {k} {z} h t = record { sfits = lt-of-le-of-lt (le-trans (mag-le-natAbs z) (h .abs)) (ltb→lt k (2 ^ hbits w) t) }
 
@@ -29,15 +30,19 @@ pub record Holds (w : Width) (k : ℕ) (y z : ℤ) : Type 0 where
   pub is : y ≡ z
   pub size : Small k z
 
+-- the result of an operation fits
 pub fit : {w : Width} {k : ℕ} {y z : ℤ} → Holds w k y z → T (ltb k (2 ^ hbits w)) → SFits w y
 fit {w} h t = subst (SFits w) (sym (h .is)) (small-fits (h .size) t)
 
+-- and is as small
 pub sized : {w : Width} {k : ℕ} {y z : ℤ} → Holds w k y z → Small k y
 sized {k = k} h = subst (Small k) (sym (h .is)) (h .size)
 
+-- the value of a local that was given the result
 pub read : {w : Width} {k : ℕ} {y z : ℤ} → Holds w k y z → T (ltb k (2 ^ hbits w)) → Holds w k (back w y) z
 read h t = record { is = toZ-ofZ (fit h t) ∙ h .is; size = h .size }
 
+-- a number, a parameter as it is read, and a literal
 pub given : {w : Width} {k : ℕ} {z : ℤ} → Small k z → Holds w k z z
 given h = record { is = refl; size = h }
 
@@ -50,7 +55,10 @@ lit z = given (record { abs = le-refl (natAbs z) })
 infixl 6 _⊞_ _⊟_
 infixl 7 _⊠_
 pub _⊞_ : {w : Width} {a b : ℕ} {x y u v : ℤ} → Holds w a x u → Holds w b y v → Holds w (a + b) (x +ℤ y) (u +ℤ v)
-_⊞_ {u = u} {v = v} h k = record { is = cc (h .is, k .is); size = record { abs = le-trans (natAbs-add u v) (add-le-add (h .size .abs) (k .size .abs)) } }
+_⊞_ {u = u} {v = v} h k = record {
+  is = cc (h .is, k .is);
+  size = record { abs = le-trans (natAbs-add u v) (add-le-add (h .size .abs) (k .size .abs)) };
+}
 
 pub neg : {w : Width} {a : ℕ} {x u : ℤ} → Holds w a x u → Holds w a (negℤ x) (negℤ u)
 neg {u = u} h = record { is = ap negℤ (h .is); size = record { abs = le-trans (le-of-eq (natAbs-neg u)) (h .size .abs) } }
@@ -59,7 +67,10 @@ pub _⊟_ : {w : Width} {a b : ℕ} {x y u v : ℤ} → Holds w a x u → Holds 
 h ⊟ k = h ⊞ neg k
 
 pub _⊠_ : {w : Width} {a b : ℕ} {x y u v : ℤ} → Holds w a x u → Holds w b y v → Holds w (a * b) (x *ℤ y) (u *ℤ v)
-_⊠_ {u = u} {v = v} h k = record { is = cc (h .is, k .is); size = record { abs = le-trans (le-of-eq (natAbs-mul u v)) (mul-le-mul (h .size .abs) (k .size .abs)) } }
+_⊠_ {u = u} {v = v} h k = record {
+  is = cc (h .is, k .is);
+  size = record { abs = le-trans (le-of-eq (natAbs-mul u v)) (mul-le-mul (h .size .abs) (k .size .abs)) };
+}
 
 -- a test of two values that the code reads
 pub lt-of : {w : Width} {a b : ℕ} {x y u v : ℤ} {t : Bool} → Holds w a x u → Holds w b y v → ltZ x y ≡ t → ltZ u v ≡ t

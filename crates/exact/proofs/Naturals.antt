@@ -1,5 +1,6 @@
 -- Natural numbers: a few laws that the library leaves out, and how ℕ uses the solver and the certificates of ℤ.
--- An identity is the solver's at `pos`, with `pos-inj`: `pos-inj (ring 2 (λ a b. a ⊗ (b ⊕ b) ≔ # 2 ⊗ a ⊗ b) tt (pos a) (pos b)) : a * (b + b) ≡ 2 * a * b`.
+-- An identity is the solver's at `pos`, with `pos-inj`:
+-- `pos-inj (ring 2 (λ a b. a ⊗ (b ⊕ b) ≔ # 2 ⊗ a ⊗ b) tt (pos a) (pos b)) : a * (b + b) ≡ 2 * a * b`.
 use mathlib.Core.Path.{_≡_, sym, _∙_, ap, ap₂}
 use mathlib.Core.Logic.{_⊎_, inl, inr}
 use Prim.Native.Nat.{ℕ, zero, suc, _*_, _-_, _^_, _≤_}

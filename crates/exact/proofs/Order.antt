@@ -1,7 +1,7 @@
 -- ℤ (`lib.IntN`, with the order of `lib.Signed`) as an ordered ring, and the embedding `pos` of ℕ.
 -- `mul-mono-r h k : (a *ℤ c) ≤ℤ (b *ℤ c)`, from `h : a ≤ℤ b` and `k : pos 0 ≤ℤ c`. What is linear comes from `Linear`; the rest names a
 -- difference that is not negative (`le-by`) and has the identity from the solver of `Ring`. Longer ones: `Certificates`.
-use mathlib.Core.Path.{_≡_, sym, ap, subst}
+use mathlib.Core.Path.{_≡_, ap, subst}
 use mathlib.Core.Logic.{_⊎_, inl, inr}
 use mathlib.Core.Bool.{not}
 use Prim.Native.Nat.{ℕ, suc, _+_, _*_, _-_, _≤_, _<_}

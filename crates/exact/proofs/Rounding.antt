@@ -1,8 +1,9 @@
 -- Quotients rounded down (`x / b`) and up (`ceil x b`): what they bound, and that they keep the order of the fractions.
 -- `floor-mono 65536 a b c d hb hd h : 65536 * a / b ≤ 65536 * c / d`, from `h : a * d ≤ c * b`, which says a/b ≤ c/d.
-use mathlib.Core.Path.{_≡_, sym}
+use mathlib.Core.Path.{_≡_}
 use Prim.Native.Nat.{ℕ, suc, _+_, _*_, _-_, _/_, _≤_, _<_}
-use native.Mathlib.Nat.{le-trans, le-of-eq, mul-assoc, mul-right-comm, mul-le-mul-left, mul-le-mul-right, le-of-mul-le-mul-right, div-mul-le-self, le-div-iff-mul-le, div-lt-iff-lt-mul, lt-div-mul-add, suc-mul}
+use native.Mathlib.Nat.{le-trans, le-of-eq, suc-mul, mul-assoc, mul-right-comm, mul-le-mul-left, mul-le-mul-right, le-of-mul-le-mul-right}
+use native.Mathlib.Nat.{div-mul-le-self, le-div-iff-mul-le, div-lt-iff-lt-mul, lt-div-mul-add}
 use native.Mathlib.Omega.{arith}
 use Rattle.exact.specs.Rounding.{ceil}
 

@@ -1,15 +1,15 @@
 -- Tests as facts, and back: `and-true`, `between-true` and the like take a test that is true (or false) to what it says.
 -- `between-true 24 65536 n e : (24 ≤ n) × (n ≤ 65536)`, from `e : between 24 65536 n ≡ true`.
 -- Tests of one pair of natural numbers are in `borrow.Author.Tests` (`leb-true`, `le-leb`, ..).
-use mathlib.Core.Path.{_≡_, refl, sym, ap, ap₂, _∙_}
+use mathlib.Core.Path.{_≡_, refl, sym, _∙_}
 use mathlib.Core.Logic.{_⊎_, inl, inr}
 use mathlib.Core.Bool.{Bool, true, false, cond, _&&_, false≢true}
 use Prim.Native.Nat.{ℕ, zero, suc, _≤_}
 use borrow.Author.Tests.{leb-true, le-leb}
-use lib.Dec.{leb, leb·zero, leb·suc-zero, leb·suc-suc}
+use lib.Dec.{T, leb, leb·zero, leb·suc-zero, leb·suc-suc}
 use lib.IntN.{ℤ, pos, negsuc, negℤ, natAbs}
-use lib.Signed.{leZ, ltZ, _≤ℤ_, _<ℤ_, leZ-yes, ltZ-yes, ltZ-no}
-use Rattle.exact.specs.Range.{between, betweenℤ, Small, Small3}
+use lib.Signed.{leZ, ltZ, _≤ℤ_, _<ℤ_, leZ-yes, ltZ-yes, ltZ-no, clashℤ}
+use Rattle.exact.specs.Range.{between, betweenℤ, Small}
 use Rattle.exact.proofs.Order.{leZ-no}
 
 -- ---- any test
@@ -40,6 +40,26 @@ ltZ-true a b e = ltZ-yes (rw e tt)
 pub ltZ-false : (a b : ℤ) → ltZ a b ≡ false → b ≤ℤ a
 ltZ-false a b e = ltZ-no (rw e tt)
 
+is-true : (t : Bool) → T t → t ≡ true
+is-true true h = refl
+is-true false h = absurd h
+
+is-false : (t : Bool) → (t ≡ true → ⊥) → t ≡ false
+is-false true h = absurd (h refl)
+is-false false h = refl
+
+pub le-leZ : (a b : ℤ) → a ≤ℤ b → leZ a b ≡ true
+le-leZ a b h = is-true (leZ a b) (h .le)
+
+pub lt-leZ : (a b : ℤ) → b <ℤ a → leZ a b ≡ false
+lt-leZ a b h = is-false (leZ a b) (λ e. clashℤ h (leZ-true a b e))
+
+pub lt-ltZ : (a b : ℤ) → a <ℤ b → ltZ a b ≡ true
+lt-ltZ a b h = is-true (ltZ a b) (h .lt)
+
+pub le-ltZ : (a b : ℤ) → b ≤ℤ a → ltZ a b ≡ false
+le-ltZ a b h = is-false (ltZ a b) (λ e. clashℤ (ltZ-true a b e) h)
+
 -- ---- ranges
 
 pub between-true : (lo hi n : ℕ) → between lo hi n ≡ true → (lo ≤ n) × (n ≤ hi)
@@ -50,6 +70,9 @@ true-between lo hi n h k = true-and (le-leb lo n h) (le-leb n hi k)
 
 pub betweenℤ-true : (lo hi z : ℤ) → betweenℤ lo hi z ≡ true → (lo ≤ℤ z) × (z ≤ℤ hi)
 betweenℤ-true lo hi z e = let p = and-true (leZ lo z) (leZ z hi) e in (leZ-true lo z (p .0), leZ-true z hi (p .1))
+
+pub true-betweenℤ : (lo hi z : ℤ) → lo ≤ℤ z → z ≤ℤ hi → betweenℤ lo hi z ≡ true
+true-betweenℤ lo hi z h k = true-and (le-leZ lo z h) (le-leZ z hi k)
 
 -- ---- from −k to k
 

@@ -1,8 +1,8 @@
 -- Vectors of three integers: their squares, their inner product and the sum of their sizes.
 -- `nn-square3 x y z : pos 0 ≤ℤ square3 x y z`.
-use mathlib.Core.Path.{_≡_, refl, sym, ap}
-use mathlib.Core.Logic.{_⊎_, inl, inr}
-use Prim.Native.Nat.{ℕ, _+_, _≤_}
+use mathlib.Core.Path.{sym, ap}
+use mathlib.Core.Logic.{inl, inr}
+use Prim.Native.Nat.{_+_}
 use native.Mathlib.Nat.{le-trans, le-refl, add-le-add}
 use lib.IntN.{ℤ, pos, natAbs, _+ℤ_, _*ℤ_}
 use lib.Signed.{_≤ℤ_, _<ℤ_, clashℤ}
