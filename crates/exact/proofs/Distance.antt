@@ -1,4 +1,4 @@
--- The squared distance along a ray, over the places n/d of a stretch from i/T to j/T: it is greatest at an end (`dist-max`), nowhere below
+-- The squared distance along a ray, over the places n/d of a span from i/T to j/T: it is greatest at an end (`dist-max`), nowhere below
 -- (e a − m²)/a (`dist-foot`, met at the foot of the perpendicular, −m/a), and least at an end where the foot is not strictly inside (`dist-min`).
 -- `dist-foot e m a n d : ((e *ℤ a -ℤ m *ℤ m) *ℤ (d *ℤ d)) ≤ℤ (a *ℤ dist e m a n d)`.
 use mathlib.Core.Path.{_≡_, sym, _∙_, ap, ap₂}
@@ -19,7 +19,7 @@ use Rattle.exact.proofs.Convex.{quadE, quad-max, quad-rising, quad-fall
 abbrev pub distE : Ex → Ex → Ex → Ex → Ex → Ex
 distE e m a n d = e ⊗ d ⊗ d ⊕ # 2 ⊗ m ⊗ n ⊗ d ⊕ a ⊗ n ⊗ n
 
--- the foot of the perpendicular, at −m/a, is not strictly inside the stretch
+-- the foot of the perpendicular, at −m/a, is not strictly inside the span
 abbrev pub FootOutside : ℤ → ℤ → ℤ → ℤ → ℤ → Type 0
 FootOutside m a i j T = (negℤ (m *ℤ T) ≤ℤ (i *ℤ a)) ⊎ ((j *ℤ a) ≤ℤ negℤ (m *ℤ T))
 

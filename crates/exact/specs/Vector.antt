@@ -1,4 +1,4 @@
--- Vectors of three integers, coordinate by coordinate: `square3 x y z` is the square of the length of (x, y, z).
+-- Vectors of three integers, coordinate by coordinate: `dot3 u v w x y z` is (u, v, w) · (x, y, z).
 use lib.IntN.{ℤ, pos, natAbs, _+ℤ_, _*ℤ_}
 
 -- the inner product
