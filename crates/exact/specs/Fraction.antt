@@ -5,11 +5,13 @@ use Prim.Native.Nat.{ℕ, _*_, _≤_}
 use lib.IntN.{ℤ, pos, natAbs, _+ℤ_, _-ℤ_, _*ℤ_}
 use lib.Signed.{leZ, _≤ℤ_, _<ℤ_}
 
+-- num/den
 pub record Fraction : Type 0 where
   pub num : ℤ
   pub den : ℕ
 
 infix 60 _over_
+-- n/d
 abbrev pub _over_ : ℤ → ℕ → Fraction
 n over d = record { num = n; den = d }
 
