@@ -2,7 +2,8 @@
 -- `*ℤ-+ℤ a b c : a *ℤ (b +ℤ c) ≡ a *ℤ b +ℤ a *ℤ c`.
 use mathlib.Core.Path.{_≡_, sym, _∙_, ap, ap₂}
 use Prim.Native.Nat.{zero, suc}
-use lib.IntN.{ℤ, pos, negsuc, sucℤ, predℤ, negℤ, one, _+ℤ_, _*ℤ_, sucℤ-+ℤ, predℤ-+ℤ, +ℤ-idl, +ℤ-assoc, +ℤ-comm, +ℤ-invl, +ℤ-negℤ-cancel, *ℤ-one, zero-*ℤ, sucℤ-*ℤ, predℤ-*ℤ, *ℤ-comm}
+use lib.IntN.{ℤ, pos, negsuc, sucℤ, predℤ, negℤ, one, _+ℤ_, _*ℤ_, sucℤ-+ℤ, predℤ-+ℤ, +ℤ-idl, +ℤ-assoc, +ℤ-comm, +ℤ-invl, +ℤ-negℤ-cancel}
+use lib.IntN.{*ℤ-one, zero-*ℤ, sucℤ-*ℤ, predℤ-*ℤ, *ℤ-comm}
 
 -- induction by successor and predecessor
 ind {ℓ} : (P : ℤ → Type ℓ) → P (pos zero) → ((k : ℤ) → P k → P (sucℤ k)) → ((k : ℤ) → P k → P (predℤ k)) → (k : ℤ) → P k

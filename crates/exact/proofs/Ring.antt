@@ -181,7 +181,8 @@ ev-mulZ (pos (suc zero)) p e = sym (*ℤ-idl (ev p e))
 ev-mulZ (pos (suc (suc n))) p e = ev-mulC (pos (suc (suc n))) p e
 ev-mulZ (negsuc n) p e = ev-mulC (negsuc n) p e
 
-ev-each : (f : Poly → Poly) (a : ℤ) (p : Poly) (e : List ℤ) → ((s : Poly) → ev (f s) (others e) ≡ a *ℤ ev s (others e)) → ev (each f p) e ≡ a *ℤ ev p e
+ev-each : (f : Poly → Poly) (a : ℤ) (p : Poly) (e : List ℤ) → ((s : Poly) → ev (f s) (others e) ≡ a *ℤ ev s (others e))
+    → ev (each f p) e ≡ a *ℤ ev p e
 unfolding ev
 ev-each f a (const k) e h =
     ev-join (f (const k)) (const (pos zero)) e ∙ ap₂ (λ (x y : ℤ). x +ℤ y) (h (const k)) (*ℤ-zero (first e)) ∙ +ℤ-idr (a *ℤ k)

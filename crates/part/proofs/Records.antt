@@ -12,7 +12,7 @@ use lib.IntN.{ℤ, pos, negℤ}
 use lib.Dec.{ltb, leb}
 use lib.Seq.{sets, getD-append-add}
 use Rattle.exact.specs.Range.{betweenℤ}
-use Rattle.exact.proofs.Tests.{and-true, betweenℤ-true, within-small}
+use Rattle.exact.proofs.Tests.{both-true, betweenℤ-true, within-small}
 use Rattle.exact.proofs.Buffers.{sets-append, sets-whole}
 use Rattle.part.specs.Questions.{firstNo}
 use Rattle.part.specs.Nodes.{Record, isPoint, kindKnown, coordinate, inRange, forPoint, forOperator, heldAfter, recordQuestions, recordsQuestions, numbers, nodeIn}
@@ -41,10 +41,10 @@ point-ranges n e =
     let x = coordinate (n .x) in
     let y = coordinate (n .y) in
     let z = coordinate (n .z) in
-    let upToWeight = and-true (r && x && y && z) (betweenℤ (negℤ (pos 4096)) (pos 4096) (n .weight)) e in
-    let upToZ = and-true (r && x && y) z (upToWeight .0) in
-    let upToY = and-true (r && x) y (upToZ .0) in
-    let upToX = and-true r x (upToY .0) in
+    let upToWeight = both-true (r && x && y && z) (betweenℤ (negℤ (pos 4096)) (pos 4096) (n .weight)) e in
+    let upToZ = both-true (r && x && y) z (upToWeight .0) in
+    let upToY = both-true (r && x) y (upToZ .0) in
+    let upToX = both-true r x (upToY .0) in
     let radius = betweenℤ-true (pos 1) (pos 1024) (n .radius) (upToX .0) in
     record {
       radius-low = radius .0;

@@ -8,7 +8,7 @@ use borrow.Author.Tests.{leb-true, eqb-true}
 use lib.ListN.{length}
 use lib.Dec.{leb, eqb}
 use Rattle.exact.specs.Range.{between}
-use Rattle.exact.proofs.Tests.{and-true, between-true}
+use Rattle.exact.proofs.Tests.{both-true, between-true}
 use Rattle.part.specs.Questions.{firstNo}
 use Rattle.part.specs.Nodes.{recordsQuestions}
 use Rattle.part.specs.File.{iso, distance, trailerQuestions, start, count, records, fileQuestions}
@@ -22,8 +22,8 @@ trailer-facts file ok =
     let d = distance file in
     let q = all-yes (trailerQuestions file) ok in
     let length-ok = between-true 24 65536 (length file) (q 0) in
-    let q4 = and-true (between 24 6144 d && eqb (d % 12) 0) (leb d (length file)) (q 3) in
-    let q4-low = and-true (between 24 6144 d) (eqb (d % 12) 0) (q4 .0) in
+    let q4 = both-true (between 24 6144 d && eqb (d % 12) 0) (leb d (length file)) (q 3) in
+    let q4-low = both-true (between 24 6144 d) (eqb (d % 12) 0) (q4 .0) in
     let d-ok = between-true 24 6144 d (q4-low .0) in
     let iso-ok = between-true 1 4096 (iso file) (q 4) in
     record {
