@@ -1,0 +1,79 @@
+-- The greater and the lesser of two integers.
+-- `max-le h k : maxℤ a b ≤ℤ c`, from `h : a ≤ℤ c` and `k : b ≤ℤ c`.
+use mathlib.Core.Path.{_≡_, sym, ap, _∙_}
+use mathlib.Core.Logic.{_⊎_, inl, inr}
+use Prim.Native.Nat.{ℕ, _≤_, max, min}
+use native.Mathlib.Nat.{le-max-left, le-max-right, max-eq-left, max-eq-right, min-eq-left, min-eq-right}
+use lib.IntN.{ℤ, pos, natAbs}
+use lib.Signed.{ltZ, _≤ℤ_, ≤ℤ-refl}
+use Rattle.exact.specs.Extrema.{maxℤ, minℤ}
+use Rattle.exact.proofs.Order.{≤ℤ-trans, <ℤ-le, pos-reflect}
+use Rattle.exact.proofs.Tests.{cond-is, ltZ-true, ltZ-false}
+
+-- ---- one of the two, and which
+
+pub max-is : (a b : ℤ) → ((a ≤ℤ b) × (maxℤ a b ≡ b)) ⊎ ((b ≤ℤ a) × (maxℤ a b ≡ a))
+unfolding maxℤ
+max-is a b = elim (cond-is (ltZ a b) b a) [
+  | inl h ↦ inl (<ℤ-le (ltZ-true a b (h .0)), h .1)
+  | inr h ↦ inr (ltZ-false a b (h .0), h .1)
+]
+
+pub min-is : (a b : ℤ) → ((a ≤ℤ b) × (minℤ a b ≡ a)) ⊎ ((b ≤ℤ a) × (minℤ a b ≡ b))
+unfolding minℤ
+min-is a b = elim (cond-is (ltZ a b) a b) [
+  | inl h ↦ inl (<ℤ-le (ltZ-true a b (h .0)), h .1)
+  | inr h ↦ inr (ltZ-false a b (h .0), h .1)
+]
+
+-- ---- the order
+
+pub le-max-l : (a b : ℤ) → a ≤ℤ maxℤ a b
+le-max-l a b = elim (max-is a b) [ inl h ↦ rw (h .1) (h .0) | inr h ↦ rw (h .1) (≤ℤ-refl a) ]
+
+pub le-max-r : (a b : ℤ) → b ≤ℤ maxℤ a b
+le-max-r a b = elim (max-is a b) [ inl h ↦ rw (h .1) (≤ℤ-refl b) | inr h ↦ rw (h .1) (h .0) ]
+
+pub max-le : {a b k : ℤ} → a ≤ℤ k → b ≤ℤ k → maxℤ a b ≤ℤ k
+max-le {a} {b} h l = elim (max-is a b) [ inl u ↦ rw (u .1) l | inr u ↦ rw (u .1) h ]
+
+pub min-le-l : (a b : ℤ) → minℤ a b ≤ℤ a
+min-le-l a b = elim (min-is a b) [ inl h ↦ rw (h .1) (≤ℤ-refl a) | inr h ↦ rw (h .1) (h .0) ]
+
+pub min-le-r : (a b : ℤ) → minℤ a b ≤ℤ b
+min-le-r a b = elim (min-is a b) [ inl h ↦ rw (h .1) (h .0) | inr h ↦ rw (h .1) (≤ℤ-refl b) ]
+
+pub le-min : {a b k : ℤ} → k ≤ℤ a → k ≤ℤ b → k ≤ℤ minℤ a b
+le-min {a} {b} h l = elim (min-is a b) [ inl u ↦ rw (u .1) h | inr u ↦ rw (u .1) l ]
+
+pub max-mono : {a b c d : ℤ} → a ≤ℤ c → b ≤ℤ d → maxℤ a b ≤ℤ maxℤ c d
+max-mono {c = c} {d = d} h k = max-le (≤ℤ-trans h (le-max-l c d)) (≤ℤ-trans k (le-max-r c d))
+
+pub min-mono : {a b c d : ℤ} → a ≤ℤ c → b ≤ℤ d → minℤ a b ≤ℤ minℤ c d
+min-mono {a} {b} h k = le-min (≤ℤ-trans (min-le-l a b) h) (≤ℤ-trans (min-le-r a b) k)
+
+-- ---- natural numbers, and sizes
+
+pub pos-max : (a b : ℕ) → maxℤ (pos a) (pos b) ≡ pos (max a b)
+pos-max a b = elim (max-is (pos a) (pos b)) [
+  | inl h ↦ h .1 ∙ ap pos (sym (max-eq-right (pos-reflect (h .0))))
+  | inr h ↦ h .1 ∙ ap pos (sym (max-eq-left (pos-reflect (h .0))))
+]
+
+pub pos-min : (a b : ℕ) → minℤ (pos a) (pos b) ≡ pos (min a b)
+pos-min a b = elim (min-is (pos a) (pos b)) [
+  | inl h ↦ h .1 ∙ ap pos (sym (min-eq-left (pos-reflect (h .0))))
+  | inr h ↦ h .1 ∙ ap pos (sym (min-eq-right (pos-reflect (h .0))))
+]
+
+pub natAbs-max : (a b : ℤ) → natAbs (maxℤ a b) ≤ max (natAbs a) (natAbs b)
+natAbs-max a b = elim (max-is a b) [
+  | inl h ↦ rw (h .1) (le-max-right (natAbs a) (natAbs b))
+  | inr h ↦ rw (h .1) (le-max-left (natAbs a) (natAbs b))
+]
+
+pub natAbs-min : (a b : ℤ) → natAbs (minℤ a b) ≤ max (natAbs a) (natAbs b)
+natAbs-min a b = elim (min-is a b) [
+  | inl h ↦ rw (h .1) (le-max-left (natAbs a) (natAbs b))
+  | inr h ↦ rw (h .1) (le-max-right (natAbs a) (natAbs b))
+]

@@ -1,0 +1,106 @@
+-- Fractions: their order, and what `plus`, `greater` and `lesser` do to it. Laws that pass over a fraction ask that it be `Proper`.
+-- `≼-trans p h k : x ≼ z`, from `h : x ≼ y`, `k : y ≼ z` and `p : Proper y`.
+use mathlib.Core.Path.{_≡_, ap₂}
+use mathlib.Core.Logic.{_⊎_, inl, inr}
+use mathlib.Core.Bool.{true, false}
+use Prim.Native.Nat.{ℕ}
+use native.Mathlib.Nat.{mul-pos, mul-comm, mul-assoc, mul-one}
+use lib.IntN.{ℤ, pos, _+ℤ_, _*ℤ_}
+use lib.Signed.{_≤ℤ_, ≤ℤ-refl}
+use Rattle.exact.specs.Fraction.{Fraction, _over_, Proper, _≼_, atMost, plus, greater, lesser}
+use Rattle.exact.proofs.Ring.{_⊕_, _⊖_, _⊗_, #, _≔_, ring}
+use Rattle.exact.proofs.Order.{nn-add, nn-mul, nn-pos, <ℤ-le, ≤ℤ-of-eq, mul-cancel-le, pos-mono-lt}
+use Rattle.exact.proofs.Certificates.{_≦_by_, le, nn}
+use Rattle.exact.proofs.Tests.{cond-is, leZ-true, leZ-false}
+
+-- ---- the order
+
+pub ≼-refl : (x : Fraction) → x ≼ x
+≼-refl x = record { cross = ≤ℤ-refl (x .num *ℤ pos (x .den)) }
+
+pub ≼-trans : {x y z : Fraction} → Proper y → x ≼ y → y ≼ z → x ≼ z
+≼-trans {x} {y} {z} p h k = record {
+  cross = mul-cancel-le (pos-mono-lt p)
+      (le 6 (λ a b c d e f. a ⊗ f ⊗ d ≦ e ⊗ b ⊗ d by f ⊗ (c ⊗ b ⊖ a ⊗ d) ⊕ b ⊗ (e ⊗ d ⊖ c ⊗ f)) tt
+      (x .num) (pos (x .den)) (y .num) (pos (y .den)) (z .num) (pos (z .den)) (search (nn, h .cross, k .cross)));
+}
+
+-- of one denominator
+pub ≼-over : {a b : ℤ} (d : ℕ) → a ≤ℤ b → a over d ≼ b over d
+≼-over {a} {b} d h = record { cross = le 3 (λ a b d. a ⊗ d ≦ b ⊗ d by (b ⊖ a) ⊗ d) tt a b (pos d) (search nn) }
+
+-- ---- the sum: a commutative monoid, as it is written
+
+over-eq : {a b : ℤ} {c d : ℕ} → a ≡ b → c ≡ d → a over c ≡ b over d
+over-eq p q = ap₂ (λ (n : ℤ) (d : ℕ). n over d) p q
+
+pub plus-assoc : (x y z : Fraction) → plus (plus x y) z ≡ plus x (plus y z)
+unfolding plus
+plus-assoc x y z =
+    over-eq (ring 6 (λ a b c d e f. (a ⊗ d ⊕ c ⊗ b) ⊗ f ⊕ e ⊗ (b ⊗ d) ≔ a ⊗ (d ⊗ f) ⊕ (c ⊗ f ⊕ e ⊗ d) ⊗ b) tt
+    (x .num) (pos (x .den)) (y .num) (pos (y .den)) (z .num) (pos (z .den)))
+    (mul-assoc (x .den) (y .den) (z .den))
+
+pub plus-comm : (x y : Fraction) → plus x y ≡ plus y x
+unfolding plus
+plus-comm x y =
+    over-eq (ring 4 (λ a b c d. a ⊗ d ⊕ c ⊗ b ≔ c ⊗ b ⊕ a ⊗ d) tt (x .num) (pos (x .den)) (y .num) (pos (y .den))) (mul-comm (x .den) (y .den))
+
+pub plus-none : (x : Fraction) → plus x (pos 0 over 1) ≡ x
+unfolding plus
+plus-none x = over-eq (ring 2 (λ a b. a ⊗ # 1 ⊕ # 0 ⊗ b ≔ a) tt (x .num) (pos (x .den))) (mul-one (x .den))
+
+-- ---- the sum and the order
+
+pub plus-proper : (x y : Fraction) → Proper x → Proper y → Proper (plus x y)
+unfolding plus
+plus-proper x y p q = mul-pos p q
+
+pub plus-mono : {x y x′ y′ : Fraction} → x ≼ x′ → y ≼ y′ → plus x y ≼ plus x′ y′
+unfolding plus
+plus-mono {x} {y} {x′} {y′} h k = record {
+  cross = le 8 (λ a b c d e f g i. (a ⊗ d ⊕ c ⊗ b) ⊗ (f ⊗ i) ≦ (e ⊗ i ⊕ g ⊗ f) ⊗ (b ⊗ d) by d ⊗ i ⊗ (e ⊗ b ⊖ a ⊗ f) ⊕ b ⊗ f ⊗ (g ⊗ d ⊖ c ⊗ i)) tt
+      (x .num) (pos (x .den)) (y .num) (pos (y .den)) (x′ .num) (pos (x′ .den)) (y′ .num) (pos (y′ .den)) (search (nn, h .cross, k .cross) depth 8);
+}
+
+-- of one denominator, either way
+pub plus-over : (a b : ℤ) (d : ℕ) → ((a +ℤ b) over d ≼ plus (a over d) (b over d)) × (plus (a over d) (b over d) ≼ (a +ℤ b) over d)
+unfolding plus
+plus-over a b d = (
+  record { cross = ≤ℤ-of-eq (ring 3 (λ a b d. (a ⊕ b) ⊗ (d ⊗ d) ≔ (a ⊗ d ⊕ b ⊗ d) ⊗ d) tt a b (pos d)) },
+  record { cross = ≤ℤ-of-eq (ring 3 (λ a b d. (a ⊗ d ⊕ b ⊗ d) ⊗ d ≔ (a ⊕ b) ⊗ (d ⊗ d)) tt a b (pos d)) },
+)
+
+-- of two that are not negative the sum is at least each
+pub plus-up : (x y : Fraction) → pos 0 ≤ℤ x .num → pos 0 ≤ℤ y .num → (x ≼ plus x y) × (y ≼ plus x y)
+unfolding plus
+plus-up x y h k = (
+  record { cross = le 4 (λ a b c d. a ⊗ (b ⊗ d) ≦ (a ⊗ d ⊕ c ⊗ b) ⊗ b by c ⊗ b ⊗ b) tt (x .num) (pos (x .den)) (y .num) (pos (y .den)) (search nn) },
+  record { cross = le 4 (λ a b c d. c ⊗ (b ⊗ d) ≦ (a ⊗ d ⊕ c ⊗ b) ⊗ d by a ⊗ d ⊗ d) tt (x .num) (pos (x .den)) (y .num) (pos (y .den)) (search nn) },
+)
+
+pub plus-nn : (x y : Fraction) → pos 0 ≤ℤ x .num → pos 0 ≤ℤ y .num → pos 0 ≤ℤ plus x y .num
+unfolding plus
+plus-nn x y h k = nn-add (nn-mul h (nn-pos (y .den))) (nn-mul k (nn-pos (x .den)))
+
+-- ---- the greater and the lesser: one of the two, and which
+
+pub atMost-true : (x y : Fraction) → atMost x y ≡ true → x ≼ y
+atMost-true x y e = record { cross = leZ-true (x .num *ℤ pos (y .den)) (y .num *ℤ pos (x .den)) e }
+
+pub atMost-false : (x y : Fraction) → atMost x y ≡ false → y ≼ x
+atMost-false x y e = record { cross = <ℤ-le (leZ-false (x .num *ℤ pos (y .den)) (y .num *ℤ pos (x .den)) e) }
+
+pub greater-is : (x y : Fraction) → ((x ≼ y) × (greater x y ≡ y)) ⊎ ((y ≼ x) × (greater x y ≡ x))
+unfolding greater
+greater-is x y = elim (cond-is (atMost x y) y x) [
+  | inl h ↦ inl (atMost-true x y (h .0), h .1)
+  | inr h ↦ inr (atMost-false x y (h .0), h .1)
+]
+
+pub lesser-is : (x y : Fraction) → ((x ≼ y) × (lesser x y ≡ x)) ⊎ ((y ≼ x) × (lesser x y ≡ y))
+unfolding lesser
+lesser-is x y = elim (cond-is (atMost x y) x y) [
+  | inl h ↦ inl (atMost-true x y (h .0), h .1)
+  | inr h ↦ inr (atMost-false x y (h .0), h .1)
+]

@@ -1,0 +1,17 @@
+pub mod IntegerRing
+pub mod Ring
+pub mod Linear
+pub mod Order
+pub mod Absolute
+pub mod Tests
+pub mod Extrema
+pub mod Certificates
+pub mod Naturals
+pub mod Rounding
+pub mod Convex
+pub mod Vector
+pub mod Lipschitz
+pub mod Distance
+pub mod Fractions
+pub mod Machine
+pub mod Buffers

@@ -1,0 +1,105 @@
+-- Tests as facts, and back: `both-true`, `between-true` and the like take a test that is true (or false) to what it says.
+-- `between-true 24 65536 n e : (24 ≤ n) × (n ≤ 65536)`, from `e : between 24 65536 n ≡ true`.
+-- Tests of one pair of natural numbers are in `borrow.Author.Tests` (`leb-true`, `le-leb`, ..).
+use mathlib.Core.Path.{_≡_, refl, sym, ap, _∙_}
+use mathlib.Core.Logic.{_⊎_, inl, inr}
+use mathlib.Core.Bool.{Bool, true, false, cond, _&&_, and-true, false≢true}
+use Prim.Native.Nat.{ℕ, zero, suc, _≤_}
+use borrow.Author.Tests.{leb-true, le-leb, eqb-true, eq-eqb}
+use lib.Dec.{T, leb, leb·zero, leb·suc-zero, leb·suc-suc}
+use lib.IntN.{ℤ, pos, negsuc, negℤ, natAbs}
+use lib.Signed.{leZ, ltZ, _≤ℤ_, _<ℤ_, leZ-yes, ltZ-yes, ltZ-no, clashℤ}
+use Rattle.exact.specs.Range.{between, betweenℤ, eqℤ, Small}
+use Rattle.exact.proofs.Order.{leZ-no}
+
+-- ---- any test
+
+pub both-true : (a b : Bool) → (a && b) ≡ true → (a ≡ true) × (b ≡ true)
+both-true true b e = (refl, e)
+both-true false b e = absurd (false≢true e)
+
+pub true-both : {a b : Bool} → a ≡ true → b ≡ true → (a && b) ≡ true
+true-both e f = rw (e, f)
+
+-- two tests that are true together are one
+pub same-test : (a b : Bool) → (a ≡ true → b ≡ true) → (b ≡ true → a ≡ true) → a ≡ b
+same-test true b h k = sym (h refl)
+same-test false true h k = k refl
+same-test false false h k = refl
+
+-- which of two a test picks
+pub cond-is {ℓ} : {A : Type ℓ} (t : Bool) (x y : A) → ((t ≡ true) × (cond t x y ≡ x)) ⊎ ((t ≡ false) × (cond t x y ≡ y))
+cond-is true x y = inl (refl, refl)
+cond-is false x y = inr (refl, refl)
+
+-- ---- integers: equality, and the order
+
+pub eqℤ-true : (a b : ℤ) → eqℤ a b ≡ true → a ≡ b
+eqℤ-true (pos a) (pos b) e = ap pos (eqb-true a b e)
+eqℤ-true (pos a) (negsuc b) e = absurd (false≢true e)
+eqℤ-true (negsuc a) (pos b) e = absurd (false≢true e)
+eqℤ-true (negsuc a) (negsuc b) e = ap negsuc (eqb-true a b e)
+
+pub eqℤ-refl : (a : ℤ) → eqℤ a a ≡ true
+eqℤ-refl (pos a) = eq-eqb a a refl
+eqℤ-refl (negsuc a) = eq-eqb a a refl
+
+pub leZ-true : (a b : ℤ) → leZ a b ≡ true → a ≤ℤ b
+leZ-true a b e = leZ-yes (rw e tt)
+
+pub leZ-false : (a b : ℤ) → leZ a b ≡ false → b <ℤ a
+leZ-false a b e = leZ-no (rw e tt)
+
+pub ltZ-true : (a b : ℤ) → ltZ a b ≡ true → a <ℤ b
+ltZ-true a b e = ltZ-yes (rw e tt)
+
+pub ltZ-false : (a b : ℤ) → ltZ a b ≡ false → b ≤ℤ a
+ltZ-false a b e = ltZ-no (rw e tt)
+
+is-true : (t : Bool) → T t → t ≡ true
+is-true true h = refl
+is-true false h = absurd h
+
+is-false : (t : Bool) → (t ≡ true → ⊥) → t ≡ false
+is-false true h = absurd (h refl)
+is-false false h = refl
+
+pub le-leZ : (a b : ℤ) → a ≤ℤ b → leZ a b ≡ true
+le-leZ a b h = is-true (leZ a b) (h .le)
+
+pub lt-leZ : (a b : ℤ) → b <ℤ a → leZ a b ≡ false
+lt-leZ a b h = is-false (leZ a b) (λ e. clashℤ h (leZ-true a b e))
+
+pub lt-ltZ : (a b : ℤ) → a <ℤ b → ltZ a b ≡ true
+lt-ltZ a b h = is-true (ltZ a b) (h .lt)
+
+pub le-ltZ : (a b : ℤ) → b ≤ℤ a → ltZ a b ≡ false
+le-ltZ a b h = is-false (ltZ a b) (λ e. clashℤ (ltZ-true a b e) h)
+
+-- ---- ranges
+
+pub between-true : (lo hi n : ℕ) → between lo hi n ≡ true → (lo ≤ n) × (n ≤ hi)
+between-true lo hi n e = let p = both-true (leb lo n) (leb n hi) e in (leb-true lo n (p .0), leb-true n hi (p .1))
+
+pub true-between : (lo hi n : ℕ) → lo ≤ n → n ≤ hi → between lo hi n ≡ true
+true-between lo hi n h k = true-both (le-leb lo n h) (le-leb n hi k)
+
+pub betweenℤ-true : (lo hi z : ℤ) → betweenℤ lo hi z ≡ true → (lo ≤ℤ z) × (z ≤ℤ hi)
+betweenℤ-true lo hi z e = let p = both-true (leZ lo z) (leZ z hi) e in (leZ-true lo z (p .0), leZ-true z hi (p .1))
+
+pub true-betweenℤ : (lo hi z : ℤ) → lo ≤ℤ z → z ≤ℤ hi → betweenℤ lo hi z ≡ true
+true-betweenℤ lo hi z h k = true-both (le-leZ lo z h) (le-leZ z hi k)
+
+-- ---- from −k to k
+
+pub within : (k : ℕ) (z : ℤ) → betweenℤ (negℤ (pos k)) (pos k) z ≡ leb (natAbs z) k
+within zero (pos n) = rw (leb·zero n)
+within zero (negsuc n) = sym (leb·suc-zero n)
+within (suc k) (pos n) = refl
+within (suc k) (negsuc n) = and-true (leb n k) ∙ sym (leb·suc-suc n k)
+
+pub within-small : (k : ℕ) (z : ℤ) → betweenℤ (negℤ (pos k)) (pos k) z ≡ true → Small k z
+within-small k z e = record { abs = leb-true (natAbs z) k (sym (within k z) ∙ e) }
+
+pub small-within : {k : ℕ} {z : ℤ} → Small k z → betweenℤ (negℤ (pos k)) (pos k) z ≡ true
+small-within {k} {z} h = within k z ∙ le-leb (natAbs z) k (h .abs)

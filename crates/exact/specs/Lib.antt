@@ -1,0 +1,6 @@
+pub mod Range
+pub mod Extrema
+pub mod Rounding
+pub mod Vector
+pub mod Distance
+pub mod Fraction

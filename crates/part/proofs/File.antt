@@ -1,0 +1,29 @@
+-- From the check's answer back to its questions.
+-- `accepted file e` says that every question of the file is answered yes, from `e : checkFile file ≡ Accepted n i`.
+use Prim.Native.Nat.{ℕ}
+use native.Mathlib.Omega.{arith}
+use mathlib.Core.Path.{_≡_, refl}
+use mathlib.Core.List.{List}
+use Rattle.part.specs.Questions.{firstNo}
+use Rattle.part.specs.File.{fileQuestions, answerOf, checkFile}
+use Rattle.part.specs.declared.Checked.the-variants.{Refused, Accepted}
+use Rattle.part.specs.declared.Verdict.{Verdict}
+use Rattle.part.specs.declared.Verdict.the-variants.{Yes, No}
+
+answer-accepted : (v : Verdict) (file : List ℕ) {n i : ℕ} → answerOf v file ≡ Accepted n i → v ≡ Yes
+unfolding answerOf
+answer-accepted Yes file e = refl
+answer-accepted (No m) file e = let z : _≡_ {A = ℕ} 0 1 = cc in absurd (omega arith)
+
+answer-refused : (v : Verdict) (file : List ℕ) {n : ℕ} → answerOf v file ≡ Refused n → v ≡ No n
+unfolding answerOf
+answer-refused Yes file e = let z : _≡_ {A = ℕ} 0 1 = cc in absurd (omega arith)
+answer-refused (No m) file e = cc
+
+pub accepted : (file : List ℕ) {n i : ℕ} → checkFile file ≡ Accepted n i → firstNo (fileQuestions file) ≡ Yes
+unfolding checkFile
+accepted file e = answer-accepted (firstNo (fileQuestions file)) file e
+
+pub refused : (file : List ℕ) {n : ℕ} → checkFile file ≡ Refused n → firstNo (fileQuestions file) ≡ No n
+unfolding checkFile
+refused file e = answer-refused (firstNo (fileQuestions file)) file e

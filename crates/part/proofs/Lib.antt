@@ -1,0 +1,8 @@
+pub mod Questions
+pub mod Bytes
+pub mod Records
+pub mod Trailer
+pub mod File
+pub mod Accepted
+pub mod Leading
+pub mod Cases

@@ -1,0 +1,64 @@
+use Prim.Native.Nat.{ℕ, _*_, _≤_}
+use native.Mathlib.Omega.{arith}
+use mathlib.Core.Path.{_≡_, sym, _∙_}
+use mathlib.Core.List.{List}
+use lib.ListN.{length}
+use lib.IntN.{ℤ}
+use borrow.Author.Needs.{needs}
+use Rattle.part.specs.Questions.{firstNo}
+use Rattle.part.specs.Accepted.{Trailer}
+use Rattle.part.specs.File.{count, start, fileQuestions, nodes, handedOver, loaded}
+use Rattle.part.specs.declared.Verdict.the-variants.{Yes}
+use Rattle.part.proofs.Trailer.{accepted-trailer, records-end, count-high}
+use Rattle.part.proofs.Records.{nodes-stored}
+use Rattle.part.proofs.File.{accepted, refused}
+use Rattle.part.proofs.load.Statement.{statement}
+use Rattle.part.proofs.load.Tie as tie
+
+yes-to-all : (c : tie.After-enum-told) → firstNo (fileQuestions (c .before .before .before .before .args .file .now)) ≡ Yes
+yes-to-all c = accepted _ (sym (c .before .before .check .ensures) ∙ c .enum-told .given .1)
+
+trailer : (c : tie.After-enum-told) → Trailer (c .before .before .before .before .args .file .now)
+trailer c = accepted-trailer _ (yes-to-all c)
+
+fits : {file : List ℕ} (out : List ℤ) → Trailer file → length out ≡ 3066 → 6 * count file ≤ length out
+fits out t e = omega (arith, count-high t)
+
+put-nodes-requires : tie.Need-put-nodes-requires
+put-nodes-requires c κs =
+    let t = c .before .before .before in
+    let out = t .before .before .before .before .args .out .now in
+    let e : length out ≡ 3066 = search needs in
+    rw (c .before .start-of .ensures, c .before .before .count-of .ensures)
+    (omega (arith, records-end (trailer t)), fits out (trailer t) e)
+
+returns : tie.Need-returns
+unfolding loaded handedOver nodes
+returns c =
+    let t = c .before .before .before .before in
+    let a = t .before .before .before .before .args in
+    let e : length (a .out .now) ≡ 3066 = search needs in (
+      t .before .before .check .ensures,
+      rw (yes-to-all t)
+          (c .put-nodes .ensures ∙ rw (c .before .before .start-of .ensures, c .before .before .before .count-of .ensures)
+          (nodes-stored (a .file .now) (count (a .file .now)) (start (a .file .now)) (a .out .now) (fits (a .out .now) (trailer t) e))),
+    )
+
+returns-2 : tie.Need-returns-2
+unfolding loaded handedOver
+returns-2 c =
+    let k = c .before .before in
+    (k .check .ensures, rw (refused (k .before .before .args .file .now) (sym (k .check .ensures) ∙ c .enum-told2 .given .1)))
+
+pub load-spec : {M : Type 1} → statement M
+load-spec =
+    tie.close
+    (tie.spec
+    (λ c κs. search needs)
+    (λ c. search needs)
+    (λ c κs. trailer c)
+    (λ c κs. trailer (c .before))
+    put-nodes-requires
+    (λ c. search needs)
+    returns
+    returns-2)

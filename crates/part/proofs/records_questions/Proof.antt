@@ -1,0 +1,77 @@
+-- `records_questions`: what is left of the records, with the values held, is answered as the whole row is.
+use Prim.Native.Nat.{_+_, _*_, _≤_}
+use native.Mathlib.Omega.{arith}
+use mathlib.Core.Path.{_≡_, sym, _∙_}
+use lib.ListN.{length}
+use borrow.Author.Needs.{needs}
+use Rattle.part.specs.Questions.{firstNo}
+use Rattle.part.specs.Nodes.{recordsQuestions}
+use Rattle.part.specs.File.{recordAt, recordsFrom}
+use Rattle.part.proofs.Questions.{next}
+use Rattle.part.proofs.Records.{records-step, ready}
+use Rattle.part.proofs.records_questions.Statement.{statement}
+use Rattle.part.proofs.records_questions.Tie as tie
+
+abbrev Inv-loop : tie.InvT-loop
+Inv-loop file n first left₀ at₀ held₀ left at held =
+    (at + 12 * left ≤ length file)
+    × (held ≤ 64)
+    × (firstNo (recordsQuestions (recordsFrom file left at) held) ≡ firstNo (recordsQuestions (recordsFrom file n first) 0))
+
+abbrev μ-loop : tie.MeasureT-loop
+μ-loop file n first left₀ at₀ held₀ left at held = left
+
+returns : tie.Need-returns Inv-loop μ-loop
+unfolding next
+returns c =
+    let r = c .before .before .before in
+    let l = r .before .before .before .loop in
+    let s = records-step (r .before .before .before .before .before .args .file .now) (l .left) (l .at) (l .held) (r .before .before .loop-test .taken) in
+    rw (← l .inv .2, s, ← r .record-questions .ensures, c .before .number .given .1)
+
+held-after-requires : tie.Need-held-after-requires Inv-loop μ-loop
+unfolding recordAt
+held-after-requires c κs =
+    let q = c .before .before in
+    let file = q .before .before .before .before .before .args .file .now in
+    let at = q .before .before .before .loop .at in
+    let r = ready (recordAt file at) _ (sym (q .record-questions .ensures) ∙ c .enum-told .given .1) in
+    (rw (q .before .node-at .ensures) r, omega arith)
+
+loop-again : tie.Need-loop-again Inv-loop μ-loop
+unfolding next
+loop-again c =
+    let r = c .before .before .before in
+    let l = r .before .before .before .loop in
+    let s = records-step (r .before .before .before .before .before .args .file .now) (l .left) (l .at) (l .held) (r .before .before .loop-test .taken) in (
+      omega arith,
+      c .held-after .ensures .1,
+      rw (← l .inv .2, s, ← r .record-questions .ensures, c .before .enum-told .given .1, c .held-after .ensures .0, r .before .node-at .ensures),
+    )
+
+returns-2 : tie.Need-returns-2 Inv-loop μ-loop
+unfolding recordsQuestions recordsFrom firstNo
+returns-2 c =
+    let l = c .before .before .loop in
+    let e : l .left ≡ 0 = omega arith in
+    rw (← l .inv .2, e) (c .ask .ensures)
+
+pub records-questions-spec : {M : Type 1} → statement M
+records-questions-spec =
+    tie.close
+    (tie.spec
+    Inv-loop
+    μ-loop
+    (λ c. search needs)
+    (λ c κs. omega arith)
+    (λ c κs. (omega arith, c .node-at .ensures))
+    (λ c. search needs)
+    returns
+    (λ c. search needs)
+    held-after-requires
+    (λ c. omega arith)
+    (λ c. omega arith)
+    (λ c. omega arith)
+    loop-again
+    (λ c κs. search needs)
+    returns-2)

@@ -1,0 +1,19 @@
+use Rattle.part.specs.Bytes.{u32}
+use borrow.Author.Needs.{needs}
+use Rattle.part.proofs.u32_at.Statement.{statement}
+use Rattle.part.proofs.u32_at.Tie as tie
+
+returns : tie.Need-returns
+unfolding u32
+returns c = search needs
+
+pub u32-at-spec : {M : Type 1} → statement M
+u32-at-spec =
+    tie.close
+    (tie.spec
+    (λ c κs. search needs)
+    (λ c. search needs)
+    (λ c κs. search needs)
+    (λ c. search needs)
+    (λ c. search needs)
+    returns)
