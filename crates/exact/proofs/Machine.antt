@@ -9,7 +9,7 @@ use native.Mathlib.Nat.{mul-le-mul, le-trans, le-refl, add-le-add, lt-of-le-of-l
 use borrow.Author.Tests.{eq-eqb, eqb-true}
 use lib.Dec.{T, ltb, ltb→lt, eqb}
 use lib.IntN.{ℤ, pos, negsuc, natAbs, negℤ, _+ℤ_, _-ℤ_, _*ℤ_}
-use lib.Signed.{nonNeg, ltZ, leZ}
+use lib.Signed.{nonNeg, ltZ, leZ, natAbs-le}
 use mir.Syntax.{Width}
 use mir.Val.{bits, hbits, Fits, SFits, toZ, ofZ}
 use mir.Facts.{toZ-ofZ, toZ-pos, fits-natAbs}
@@ -24,6 +24,9 @@ back w z = toZ w (ofZ w z)
 -- the range check computes: k is a numeral, and `tt` its proof
 pub small-fits : {w : Width} {k : ℕ} {z : ℤ} → Small k z → T (ltb k (2 ^ hbits w)) → SFits w z
 small-fits {w} {k} {z} h t = record { sfits = lt-of-le-of-lt (le-trans (mag-le-natAbs z) (h .abs)) (ltb→lt k (2 ^ hbits w) t) }
+
+pub fits-small : {w : Width} {z : ℤ} → SFits w z → Small (2 ^ hbits w) z
+fits-small {z = z} f = record { abs = natAbs-le z (f .sfits) }
 
 -- ---- an expression of the code, its value, and a bound of its size
 
