@@ -3,12 +3,12 @@
 -- `param`, `lit`, `⊞`, `⊟`, `⊠`, with a `read` at each local; `fit` then answers the need of an operation and the field `is` the return.
 -- For x * y + 2, of x and y with `hx : Small 4096 x` and `hy : Small 4096 y`: `fit (read (param hx tt ⊠ param hy tt) tt ⊞ lit (pos 2)) tt`.
 use mathlib.Core.Path.{_≡_, refl, sym, ap, ap₂, _∙_, subst}
-use mathlib.Core.Bool.{Bool, true, false}
+use mathlib.Core.Bool.{Bool}
 use Prim.Native.Nat.{ℕ, _+_, _*_, _^_, _≤_}
 use native.Mathlib.Nat.{mul-le-mul, le-trans, le-refl, add-le-add, lt-of-le-of-lt, le-of-eq}
 use borrow.Author.Tests.{eq-eqb, eqb-true}
 use lib.Dec.{T, ltb, ltb→lt, eqb}
-use lib.IntN.{ℤ, pos, negsuc, natAbs, negℤ, _+ℤ_, _-ℤ_, _*ℤ_}
+use lib.IntN.{ℤ, pos, natAbs, negℤ, _+ℤ_, _-ℤ_, _*ℤ_}
 use lib.Signed.{nonNeg, ltZ, leZ, natAbs-le}
 use mir.Syntax.{Width}
 use mir.Val.{bits, hbits, Fits, SFits, toZ, ofZ}

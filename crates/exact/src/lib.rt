@@ -35,28 +35,28 @@ pub fn is_between_signed(low: i32, high: i32, z: i32) -> bool
 }
 
 // The lesser of two numbers.
-pub fn least(x: u64, y: u64) -> u64
+pub fn min_u64(x: u64, y: u64) -> u64
     ensures { λ r. ⌜ r ≡ min x y ⌝ }
 {
     if x < y { x } else { y }
 }
 
 // The greater of two numbers.
-pub fn greatest(x: u64, y: u64) -> u64
+pub fn max_u64(x: u64, y: u64) -> u64
     ensures { λ r. ⌜ r ≡ max x y ⌝ }
 {
     if x < y { y } else { x }
 }
 
 // The lesser of two signed numbers.
-pub fn lesser(x: i64, y: i64) -> i64
+pub fn min_i64(x: i64, y: i64) -> i64
     ensures { λ r. ⌜ r ≡ minℤ x y ⌝ }
 {
     if x < y { x } else { y }
 }
 
 // The greater of two signed numbers.
-pub fn greater(x: i64, y: i64) -> i64
+pub fn max_i64(x: i64, y: i64) -> i64
     ensures { λ r. ⌜ r ≡ maxℤ x y ⌝ }
 {
     if x < y { y } else { x }

@@ -6,11 +6,10 @@ use mathlib.Core.Path.{_≡_, refl}
 use mathlib.Core.List.{List, [], _∷_, map}
 use mathlib.Core.Bool.{Bool, true, false, cond}
 use borrow.Author.Tests.{eqb-true}
-use lib.ListN.{length}
 use Rattle.part.specs.Questions.{firstNo}
 use Rattle.part.specs.Nodes.{Record, isPoint, heldAfter, recordQuestions, recordsQuestions}
 use Rattle.part.specs.File.{iso, count, start, trailerQuestions, records, nodesFrom, nodes, fileQuestions, answerOf, checkFile}
-use Rattle.part.specs.Accepted.{Ready, Postfix, Tree, AcceptedFile}
+use Rattle.part.specs.Accepted.{Ready, Postfix, AcceptedFile}
 use Rattle.part.specs.declared.Checked.the-variants.{Accepted}
 use Rattle.part.specs.declared.Node.{Node}
 use Rattle.part.specs.declared.Verdict.the-variants.{Yes}

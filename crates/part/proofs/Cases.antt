@@ -6,7 +6,7 @@ use lib.ListN.{length, getD, length-append, replicate}
 use borrow.Author.Tests.{le-leb, lt-leb}
 use native.Mathlib.Omega.{arith}
 use lib.Dec.{lit≤}
-use lib.IntN.{ℤ, pos}
+use lib.IntN.{pos}
 use Rattle.part.specs.Bytes.{u16, u32, i16, hasBytes, zeros}
 use Rattle.part.specs.Questions.{firstNo}
 use Rattle.part.specs.Nodes.{isPoint, kindKnown, coordinate, inRange, forPoint, forOperator, heldAfter, recordQuestions, recordsQuestions, numbers}

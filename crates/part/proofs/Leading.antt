@@ -2,21 +2,15 @@
 use Prim.Native.Nat.{ℕ, zero, suc, _+_, _-_, _≤_}
 use native.Mathlib.Nat.{add-assoc}
 use native.Mathlib.Omega.{arith}
-use mathlib.Core.Path.{_≡_, refl, sym, ap, ap₂, _∙_}
+use mathlib.Core.Path.{_≡_, refl, ap}
 use mathlib.Core.List.{List, [], _∷_, _++_, map}
-use mathlib.Core.Bool.{Bool, true, cond, _&&_}
 use borrow.Author.Tests.{le-leb}
 use lib.ListN.{length, length-append}
-use lib.IntN.{ℤ, pos, _-ℤ_}
-use lib.Dec.{ltb, leb, eqb}
 use lib.Seq.{getD-append-add}
-use Rattle.exact.specs.Range.{between}
 use Rattle.exact.proofs.Tests.{true-between}
-use Rattle.part.specs.Bytes.{byte, u16, u32, i16, hasBytes, zeros}
+use Rattle.part.specs.Bytes.{u16, u32, i16, hasBytes, zeros}
 use Rattle.part.specs.Questions.{firstNo}
-use Rattle.part.specs.Nodes.{Record, isPoint, recordsQuestions}
 use Rattle.part.specs.File.{iso, version, distance, marked, trailerQuestions, start, count, nodeAt, recordAt, recordsFrom, records, nodesFrom, nodes, fileQuestions, answerOf, checkFile}
-use Rattle.part.specs.declared.Node.{Node}
 use Rattle.part.specs.declared.Verdict.{Verdict}
 use Rattle.part.specs.declared.Verdict.the-variants.{Yes, No}
 

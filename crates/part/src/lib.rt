@@ -12,7 +12,7 @@ ghost use lib.ListN.{length};
 ghost use lib.Seq.{sets};
 ghost use Rattle.part.specs.Bytes.{u16, u32, i16, zeros};
 ghost use Rattle.part.specs.Questions.{firstNo};
-ghost use Rattle.part.specs.Nodes.{isPoint, kindKnown, inRange, heldAfter, recordQuestions, recordsQuestions, numbers};
+ghost use Rattle.part.specs.Nodes.{isPoint, inRange, heldAfter, recordQuestions, recordsQuestions, numbers};
 ghost use Rattle.part.specs.Accepted.{Trailer, Ready};
 ghost use Rattle.part.specs.File.{iso, version, distance, marked, trailerQuestions, count, start, nodeAt, recordAt, recordsFrom, nodesFrom, fileQuestions, checkFile, loaded};
 
@@ -38,7 +38,7 @@ pub struct Node {
     pub weight: i32,
 }
 
-// ---- numbers in the bytes
+// ---- numbers in the bytes, little-endian
 
 fn u16_at(file: &[u8], at: usize) -> usize
     requires { ⌜ at + 2 ≤ length (now file) ⌝ }
@@ -66,6 +66,7 @@ fn i16_at(file: &[u8], at: usize) -> i32
     }
 }
 
+// Are n bytes zero, from a place on?
 fn are_zero(file: &[u8], at: usize, n: usize) -> bool
     requires { ⌜ at + n ≤ length (now file) ⌝ }
     ensures { λ r. ⌜ r ≡ zeros (now (file .entry)) at n ⌝ }
@@ -84,7 +85,7 @@ fn are_zero(file: &[u8], at: usize, n: usize) -> bool
 
 // ---- questions
 
-// One question before later ones.
+// A question before later ones, which are answered already.
 pub fn ask(number: u32, yes: bool, later: Verdict) -> Verdict
     ensures { λ r. ⌜ r ≡ cond yes later (Verdict.No number) ⌝ }
 {
@@ -114,6 +115,7 @@ fn distance_of(file: &[u8]) -> usize
     u32_at(file, file.len() - 8)
 }
 
+// Are the last four bytes the mark?
 fn is_marked(file: &[u8]) -> bool
     requires { ⌜ 12 ≤ length (now file) ⌝ }
     ensures { λ r. ⌜ r ≡ marked (now (file .entry)) ⌝ }
@@ -126,6 +128,7 @@ fn is_marked(file: &[u8]) -> bool
     both(t, both(r, both(e, f)))
 }
 
+// Questions 1 to 5.
 fn trailer_questions(file: &[u8]) -> Verdict
     ensures { λ r. ⌜ r ≡ firstNo (trailerQuestions (now (file .entry))) ⌝ }
 {
@@ -163,6 +166,7 @@ fn start_of(file: &[u8]) -> usize
     file.len() - distance_of(file)
 }
 
+// The node of the record at a place.
 fn node_at(file: &[u8], at: usize) -> Node
     requires { ⌜ at + 12 ≤ length (now file) ⌝ }
     ensures { λ r. ⌜ r ≡ nodeAt (now (file .entry)) at ⌝ }
@@ -183,6 +187,7 @@ fn is_point(n: Node) -> bool
     n.kind == 1
 }
 
+// Are a point's numbers in their ranges?
 fn in_range(n: Node) -> bool
     ensures { λ r. ⌜ r ≡ inRange n ⌝ }
 {
@@ -194,7 +199,7 @@ fn in_range(n: Node) -> bool
     both(both(both(both(r, x), y), z), w)
 }
 
-// The questions about the record at a place, whose node is given.
+// Questions 6 to 10 about the record at a place, whose node is given. Of these, 9 asks nothing of a point, and 8 and 10 nothing of an operator.
 fn record_questions(file: &[u8], at: usize, node: Node, held: usize) -> Verdict
     requires { ⌜ at + 12 ≤ length (now file) ⌝ }
     requires { ⌜ node ≡ nodeAt (now file) at ⌝ }
@@ -224,7 +229,7 @@ fn held_after(node: Node, held: usize) -> usize
     if is_point(node) { held + 1 } else { held - 1 }
 }
 
-// The questions about n records from a place on, one after the other, and about what is held at the end.
+// Questions 6 to 10 about each of n records from a place on, and then question 11.
 fn records_questions(file: &[u8], n: usize, first: usize) -> Verdict
     requires { ⌜ first + 12 * n ≤ length (now file) ⌝ }
     ensures { λ r. ⌜ r ≡ firstNo (recordsQuestions (recordsFrom (now (file .entry)) n first) 0) ⌝ }
@@ -271,6 +276,7 @@ pub fn check(file: &[u8]) -> Checked
 
 // ---- the nodes
 
+// The six numbers of a node, from a place of the array on.
 fn put_node(n: Node, out: &mut [i32], to: usize)
     requires { ⌜ to + 6 ≤ length (now out) ⌝ }
     ensures { λ _. ⌜ now (out .exit) ≡ sets (now (out .entry)) to (numbers (n ∷ [])) ⌝ }
@@ -289,6 +295,7 @@ fn put_node(n: Node, out: &mut [i32], to: usize)
     out[to + 5] = weight;
 }
 
+// The numbers of n records, from the array's start on.
 fn put_nodes(file: &[u8], n: usize, first: usize, out: &mut [i32])
     requires { ⌜ first + 12 * n ≤ length (now file) ⌝ }
     requires { ⌜ 6 * n ≤ length (now out) ⌝ }

@@ -1,4 +1,3 @@
-use lib.IntN.{pos, negℤ}
 use mir.Syntax.{w32}
 use mir.Val.{SFits}
 use mir.Facts.{toZ-ofZ}

@@ -1,5 +1,4 @@
-use mathlib.Core.List.{List, [], _∷_}
-use mathlib.Core.Path.{_∙_}
+use mathlib.Core.List.{[], _∷_}
 use native.Mathlib.Omega.{arith}
 use lib.ListN.{length-set}
 use mir.Syntax.{w32}
