@@ -1,4 +1,5 @@
--- Bytes before the first record are ignored: a file with more of them is answered, and read, alike (`leading-ignored`, `leading-nodes`).
+-- Bytes before the first record are ignored: a file with more of them is answered, and read, alike.
+-- `leading-ignored lead file long within short : checkFile (lead ++ file) ≡ checkFile file`, and `leading-nodes` says it of the nodes.
 use Prim.Native.Nat.{ℕ, zero, suc, _+_, _-_, _≤_}
 use native.Mathlib.Nat.{add-assoc}
 use native.Mathlib.Omega.{arith}

@@ -1,4 +1,5 @@
 -- Laws of the records: one step of what goes down their count, what their questions say, and their numbers in a lent array.
+-- `ready r held ok .point p .1 : held < 64`, from `ok`, that all questions about r are answered yes, and `p`, that it is a point.
 use Prim.Native.Nat.{ℕ, zero, suc, _+_, _-_, _*_, _≤_, _<_}
 use native.Mathlib.Nat.{not-suc-le-zero, add-assoc}
 use native.Mathlib.Numerals.{sub-one}

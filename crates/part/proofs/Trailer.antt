@@ -1,4 +1,5 @@
 -- What an accepted trailer says of the file's numbers: the records lie within it.
+-- `records-end (accepted-trailer file ok) : start file + 12 * count file + 12 ≡ length file`.
 use Prim.Native.Nat.{ℕ, _+_, _*_, _%_, _≤_}
 use native.Mathlib.Omega.{arith}
 use mathlib.Core.Path.{_≡_}

@@ -223,8 +223,7 @@ fn record_questions(file: &[u8], at: usize, node: Node, held: usize) -> Verdict
 // The values held after a node that found what it needs.
 fn held_after(node: Node, held: usize) -> usize
     requires { ⌜ Ready node held ⌝ }
-    requires { ⌜ held ≤ 64 ⌝ }
-    ensures { λ r. ⌜ (r ≡ heldAfter node held) × (r ≤ 64) ⌝ }
+    ensures { λ r. ⌜ r ≡ heldAfter node held ⌝ }
 {
     if is_point(node) { held + 1 } else { held - 1 }
 }

@@ -15,7 +15,6 @@ use Rattle.part.proofs.records_questions.Tie as tie
 abbrev Inv-loop : tie.InvT-loop
 Inv-loop file n first left₀ at₀ held₀ left at held =
     (at + 12 * left ≤ length file)
-    × (held ≤ 64)
     × (firstNo (recordsQuestions (recordsFrom file left at) held) ≡ firstNo (recordsQuestions (recordsFrom file n first) 0))
 
 abbrev μ-loop : tie.MeasureT-loop
@@ -27,7 +26,7 @@ returns c =
     let r = c .before .before .before in
     let l = r .before .before .before .loop in
     let s = records-step (r .before .before .before .before .before .args .file .now) (l .left) (l .at) (l .held) (r .before .before .loop-test .taken) in
-    rw (← l .inv .2, s, ← r .record-questions .ensures, c .before .number .given .1)
+    rw (← l .inv .1, s, ← r .record-questions .ensures, c .before .number .given .1)
 
 held-after-requires : tie.Need-held-after-requires Inv-loop μ-loop
 unfolding recordAt
@@ -35,8 +34,7 @@ held-after-requires c κs =
     let q = c .before .before in
     let file = q .before .before .before .before .before .args .file .now in
     let at = q .before .before .before .loop .at in
-    let r = ready (recordAt file at) _ (sym (q .record-questions .ensures) ∙ c .enum-told .given .1) in
-    (rw (q .before .node-at .ensures) r, omega arith)
+    rw (q .before .node-at .ensures) (ready (recordAt file at) _ (sym (q .record-questions .ensures) ∙ c .enum-told .given .1))
 
 loop-again : tie.Need-loop-again Inv-loop μ-loop
 unfolding next
@@ -45,8 +43,7 @@ loop-again c =
     let l = r .before .before .before .loop in
     let s = records-step (r .before .before .before .before .before .args .file .now) (l .left) (l .at) (l .held) (r .before .before .loop-test .taken) in (
       omega arith,
-      c .held-after .ensures .1,
-      rw (← l .inv .2, s, ← r .record-questions .ensures, c .before .enum-told .given .1, c .held-after .ensures .0, r .before .node-at .ensures),
+      rw (← l .inv .1, s, ← r .record-questions .ensures, c .before .enum-told .given .1, c .held-after .ensures, r .before .node-at .ensures),
     )
 
 returns-2 : tie.Need-returns-2 Inv-loop μ-loop
@@ -54,7 +51,7 @@ unfolding recordsQuestions recordsFrom firstNo
 returns-2 c =
     let l = c .before .before .loop in
     let e : l .left ≡ 0 = omega arith in
-    rw (← l .inv .2, e) (c .ask .ensures)
+    rw (← l .inv .1, e) (c .ask .ensures)
 
 pub records-questions-spec : {M : Type 1} → statement M
 records-questions-spec =
