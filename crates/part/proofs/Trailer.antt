@@ -29,6 +29,7 @@ trailer-facts file ok =
     let iso-ok = between-true 1 4096 (iso file) (q 4) in
     record {
       long = length-ok .0;
+      short = length-ok .1;
       distance-low = d-ok .0;
       distance-high = d-ok .1;
       distance-whole = eqb-true (d % 12) 0 (q4-low .1);

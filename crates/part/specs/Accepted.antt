@@ -14,6 +14,7 @@ use Rattle.part.specs.declared.Node.{Node}
 -- the trailer's numbers (questions 1, 4 and 5)
 pub record Trailer (file : List ℕ) : Type 0 where
   pub long : 24 ≤ length file
+  pub short : length file ≤ 65536
   pub distance-low : 24 ≤ distance file
   pub distance-high : distance file ≤ 6144
   pub distance-whole : distance file % 12 ≡ 0

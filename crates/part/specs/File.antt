@@ -63,7 +63,7 @@ nodeAt file at = record {
 
 -- a point's byte 1 is zero, and an operator's bytes 1 to 11
 unfoldable pub recordAt : List ℕ → ℕ → Record
-recordAt file at = record { node = nodeAt file at; clear = zeros file (at + 1) (cond (isPoint (nodeAt file at)) 1 11) }
+recordAt file at = record { node = nodeAt file at; zeroed = zeros file (at + 1) (cond (isPoint (nodeAt file at)) 1 11) }
 
 -- n records from a place on
 unfoldable pub recordsFrom : List ℕ → ℕ → ℕ → List Record

@@ -41,13 +41,13 @@ heldAfter n held = cond (isPoint n) (held + 1) (held - 1)
 -- a record of the file: its node, and whether its zero bytes are zero
 pub record Record : Type 0 where
   pub node : Node
-  pub clear : Bool
+  pub zeroed : Bool
 
 -- about a record, with so many values held before it
 unfoldable pub recordQuestions : Record → ℕ → List Question
 recordQuestions r held =
     (6, kindKnown (r .node))
-    ∷ (7, r .clear)
+    ∷ (7, r .zeroed)
     ∷ (8, forPoint (r .node) (inRange (r .node)))
     ∷ (9, forOperator (r .node) (leb 2 held))
     ∷ (10, forPoint (r .node) (ltb held 64))

@@ -207,16 +207,16 @@ fn record_questions(file: &[u8], at: usize, node: Node, held: usize) -> Verdict
 {
     let known = is_between_signed(1, 3, node.kind);
     if is_point(node) {
-        let clear = are_zero(file, at + 1, 1);
+        let zeroed = are_zero(file, at + 1, 1);
         let range = in_range(node);
         ask(
             6,
             known,
-            ask(7, clear, ask(8, range, ask(10, held < 64, Verdict::Yes))),
+            ask(7, zeroed, ask(8, range, ask(10, held < 64, Verdict::Yes))),
         )
     } else {
-        let clear = are_zero(file, at + 1, 11);
-        ask(6, known, ask(7, clear, ask(9, 2 <= held, Verdict::Yes)))
+        let zeroed = are_zero(file, at + 1, 11);
+        ask(6, known, ask(7, zeroed, ask(9, 2 <= held, Verdict::Yes)))
     }
 }
 

@@ -8,8 +8,8 @@ use part::Checked;
 use part::load;
 ghost use Prim.Native.Nat.{_+_, _*_, _≤_};
 
-// The word before a number and the byte after it.
-fn say(word: &[u8], n: u64, after: u8) {
+// A number, with a word before it and a byte after it.
+fn print_number(word: &[u8], n: u64, after: u8) {
     write_all(1, word);
     print_decimal(1, n);
     let end = [after];
@@ -17,33 +17,34 @@ fn say(word: &[u8], n: u64, after: u8) {
 }
 
 // A signed number, and the byte after it.
-fn say_signed(z: i32, after: u8) {
+fn print_signed(z: i32, after: u8) {
     let wide = z as i64;
     if wide < 0 {
-        say(b"-", (0 - wide) as u64, after);
+        print_number(b"-", (0 - wide) as u64, after);
     } else {
-        say(b"", wide as u64, after);
+        print_number(b"", wide as u64, after);
     }
 }
 
 // The six numbers from a place on, in one line.
-fn say_node(numbers: &[i32; 3066], at: usize)
+fn print_node(numbers: &[i32; 3066], at: usize)
     requires { ⌜ at + 6 ≤ 3066 ⌝ }
 {
-    say_signed(numbers[at], b' ');
-    say_signed(numbers[at + 1], b' ');
-    say_signed(numbers[at + 2], b' ');
-    say_signed(numbers[at + 3], b' ');
-    say_signed(numbers[at + 4], b' ');
-    say_signed(numbers[at + 5], b'\n');
+    print_signed(numbers[at], b' ');
+    print_signed(numbers[at + 1], b' ');
+    print_signed(numbers[at + 2], b' ');
+    print_signed(numbers[at + 3], b' ');
+    print_signed(numbers[at + 4], b' ');
+    print_signed(numbers[at + 5], b'\n');
 }
 
-fn say_nodes(numbers: &[i32; 3066], n: usize)
+// A line for each of n nodes.
+fn print_nodes(numbers: &[i32; 3066], n: usize)
     requires { ⌜ n ≤ 511 ⌝ }
 {
     let mut k = 0;
     while k < n {
-        say_node(numbers, 6 * k);
+        print_node(numbers, 6 * k);
         k += 1;
     }
 }
@@ -54,11 +55,11 @@ fn main() {
     let mut numbers = [0i32; 3066];
     let answer = load(&input[..n], &mut numbers);
     match answer {
-        Checked::Refused(number) => say(b"refused ", number as u64, b'\n'),
+        Checked::Refused(number) => print_number(b"refused ", number as u64, b'\n'),
         Checked::Accepted { nodes, iso } => {
-            say(b"nodes ", nodes as u64, b' ');
-            say(b"iso ", iso as u64, b'\n');
-            say_nodes(&numbers, nodes);
+            print_number(b"nodes ", nodes as u64, b' ');
+            print_number(b"iso ", iso as u64, b'\n');
+            print_nodes(&numbers, nodes);
         }
     }
 }

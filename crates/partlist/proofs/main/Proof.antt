@@ -5,8 +5,8 @@ use borrow.Author.Needs.{needs}
 use Rattle.partlist.proofs.main.Statement.{statement}
 use Rattle.partlist.proofs.main.Tie as tie
 
-say-nodes-requires : tie.Need-say-nodes-requires
-say-nodes-requires c κs =
+print-nodes-requires : tie.Need-print-nodes-requires
+print-nodes-requires c κs =
     let a = c .before .before .before .before .before .before in
     let e = sym (a .before .before .load .ensures .0) ∙ a .answer2 .given .1 in
     let f = accepted-file _ e in
@@ -30,6 +30,6 @@ main-spec =
     (λ c κs. search needs)
     (λ c. search needs)
     (λ c κs. search needs)
-    say-nodes-requires
+    print-nodes-requires
     (λ c. search needs)
     (λ c. search needs))

@@ -1,8 +1,8 @@
 use Prim.Native.Nat.{_-_, _≤_}
 use native.Mathlib.Omega.{arith}
 use borrow.Author.Needs.{needs}
-use Rattle.partlist.proofs.say_nodes.Statement.{statement}
-use Rattle.partlist.proofs.say_nodes.Tie as tie
+use Rattle.partlist.proofs.print_nodes.Statement.{statement}
+use Rattle.partlist.proofs.print_nodes.Tie as tie
 
 abbrev Inv-loop : tie.InvT-loop
 Inv-loop numbers n k₀ k = k ≤ n
@@ -10,8 +10,8 @@ Inv-loop numbers n k₀ k = k ≤ n
 abbrev μ-loop : tie.MeasureT-loop
 μ-loop numbers n k₀ k = n - k
 
-pub say-nodes-spec : {M : Type 1} → statement M
-say-nodes-spec =
+pub print-nodes-spec : {M : Type 1} → statement M
+print-nodes-spec =
     tie.close
     (tie.spec
     Inv-loop
