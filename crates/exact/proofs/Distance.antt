@@ -86,31 +86,31 @@ foot-squares = ring 6 (λ u v w x y z.
     (u ⊗ u ⊕ v ⊗ v ⊕ w ⊗ w) ⊗ (x ⊗ x ⊕ y ⊗ y ⊕ z ⊗ z) ⊖ (u ⊗ x ⊕ v ⊗ y ⊕ w ⊗ z) ⊗ (u ⊗ x ⊕ v ⊗ y ⊕ w ⊗ z)
     ≔ (u ⊗ y ⊖ v ⊗ x) ⊗ (u ⊗ y ⊖ v ⊗ x) ⊕ (u ⊗ z ⊖ w ⊗ x) ⊗ (u ⊗ z ⊖ w ⊗ x) ⊕ (v ⊗ z ⊖ w ⊗ y) ⊗ (v ⊗ z ⊖ w ⊗ y)) tt
 
--- ---- of natural numbers: e, a, i, j, T, n and d, and the distances at i/T, j/T and n/d, each given with its equation
+-- ---- of natural numbers: i, j, T, n and d, and the distances at i/T, j/T and n/d, each given with its equation
 
-module _ (e : ℕ) (m : ℤ) (a i j T n d at-i at-j at-n : ℕ)
-    (ei : pos at-i ≡ dist (pos e) m (pos a) (pos i) (pos T))
-    (ej : pos at-j ≡ dist (pos e) m (pos a) (pos j) (pos T))
-    (en : pos at-n ≡ dist (pos e) m (pos a) (pos n) (pos d))
+module _ (e m a : ℤ) (i j T n d at-i at-j at-n : ℕ) (ha : pos 0 ≤ℤ a)
+    (ei : pos at-i ≡ dist e m a (pos i) (pos T))
+    (ej : pos at-j ≡ dist e m a (pos j) (pos T))
+    (en : pos at-n ≡ dist e m a (pos n) (pos d))
     (hi : i * d ≤ T * n) (hj : T * n ≤ j * d) where
   pub dist-maxℕ : T * T * at-n ≤ d * d * max at-i at-j
   dist-maxℕ =
       pos-reflect
       (≤ℤ-trans (≤ℤ-of-eq (ap (λ (x : ℤ). pos T *ℤ pos T *ℤ x) en))
-      (≤ℤ-trans (dist-max (pos e) m (pos a) (pos i) (pos j) (pos T) (pos n) (pos d) (nn-pos a) (pos-mono hi) (pos-mono hj))
+      (≤ℤ-trans (dist-max e m a (pos i) (pos j) (pos T) (pos n) (pos d) ha (pos-mono hi) (pos-mono hj))
       (≤ℤ-of-eq (ap (λ (x : ℤ). pos d *ℤ pos d *ℤ x) (ap₂ maxℤ (sym ei) (sym ej) ∙ pos-max at-i at-j)))))
 
-  pub dist-minℕ : FootOutside m (pos a) (pos i) (pos j) (pos T) → d * d * min at-i at-j ≤ T * T * at-n
+  pub dist-minℕ : FootOutside m a (pos i) (pos j) (pos T) → d * d * min at-i at-j ≤ T * T * at-n
   dist-minℕ out =
       pos-reflect
       (≤ℤ-trans (≤ℤ-of-eq (ap (λ (x : ℤ). pos d *ℤ pos d *ℤ x) (sym (ap₂ minℤ (sym ei) (sym ej) ∙ pos-min at-i at-j))))
-      (≤ℤ-trans (dist-min (pos e) m (pos a) (pos i) (pos j) (pos T) (pos n) (pos d) (nn-pos a) (pos-mono hi) (pos-mono hj) (nn-pos d) out)
+      (≤ℤ-trans (dist-min e m a (pos i) (pos j) (pos T) (pos n) (pos d) ha (pos-mono hi) (pos-mono hj) (nn-pos d) out)
       (≤ℤ-of-eq (ap (λ (x : ℤ). pos T *ℤ pos T *ℤ x) (sym en)))))
 
 -- N is the distance at the foot, times a
-pub dist-footℕ : (e : ℕ) (m : ℤ) (a n d at-n N : ℕ) → pos at-n ≡ dist (pos e) m (pos a) (pos n) (pos d) → pos N ≡ pos e *ℤ pos a -ℤ m *ℤ m
+pub dist-footℕ : (e m : ℤ) (a n d at-n N : ℕ) → pos at-n ≡ dist e m (pos a) (pos n) (pos d) → pos N ≡ e *ℤ pos a -ℤ m *ℤ m
     → N * (d * d) ≤ a * at-n
 dist-footℕ e m a n d at-n N en eN =
     pos-reflect
     (≤ℤ-trans (≤ℤ-of-eq (ap (λ (x : ℤ). x *ℤ (pos d *ℤ pos d)) eN))
-    (≤ℤ-trans (dist-foot (pos e) m (pos a) (pos n) (pos d)) (≤ℤ-of-eq (ap (λ (x : ℤ). pos a *ℤ x) (sym en)))))
+    (≤ℤ-trans (dist-foot e m (pos a) (pos n) (pos d)) (≤ℤ-of-eq (ap (λ (x : ℤ). pos a *ℤ x) (sym en)))))

@@ -1,0 +1,10 @@
+pub mod Ray
+pub mod Kernel
+pub mod Tree
+pub mod Field
+pub mod Bounds
+pub mod Tolerance
+pub mod Marks
+pub mod Ranges
+pub mod Prepared
+pub mod Place

@@ -1,0 +1,14 @@
+-- What a tick's state says of the exact field at a place of the tick (demand 3).
+use mathlib.Core.Path.{_≡_}
+use Prim.Native.Nat.{ℕ}
+use lib.IntN.{pos}
+use Rattle.exact.specs.Fraction.{Fraction, _over_, Proper, _≼_, _≺_, apart}
+
+pub record SoundMark (iso state : ℕ) (field tolerance : Fraction) : Type 0 where
+  pub proper : Proper field × Proper tolerance
+  -- empty: the field is below the iso-value
+  pub empty : state ≡ 0 → field ≺ pos iso over 1
+  -- inside: it is at or above it
+  pub inside : state ≡ 2 → pos iso over 1 ≼ field
+  -- crossing: it differs from it by at most the tolerance
+  pub crossing : state ≡ 1 → apart field (pos iso) ≼ tolerance

@@ -1,0 +1,79 @@
+-- Rays, spans of a ray and the places on it (document 01, "The field"). Coordinates are whole steps.
+-- A place is n/m of the way from end A to end B; what is said of it is said of whole numbers, multiplied by m or by m².
+use Prim.Native.Nat.{ℕ, _+_, _*_, _≤_}
+use lib.IntN.{ℤ, pos, natAbs, _+ℤ_, _-ℤ_, _*ℤ_}
+use Rattle.exact.specs.Vector.{dot3}
+use Rattle.part.specs.declared.Node.{Node}
+use Rattle.field.specs.declared.Position.{Position}
+use Rattle.field.specs.declared.Offset.{Offset}
+use Rattle.field.specs.declared.Ray.{Ray}
+use Rattle.field.specs.declared.Span.{Span}
+
+-- ---- offsets
+
+-- p − q
+abbrev pub difference : Position → Position → Offset
+difference p q = record { x = p .x -ℤ q .x; y = p .y -ℤ q .y; z = p .z -ℤ q .z }
+
+-- the inner product
+abbrev pub inner : Offset → Offset → ℤ
+inner u v = dot3 (u .x) (u .y) (u .z) (v .x) (v .y) (v .z)
+
+-- m u + n v
+abbrev pub combination : Offset → ℕ → Offset → ℕ → Offset
+combination u m v n = record {
+  x = u .x *ℤ pos m +ℤ v .x *ℤ pos n;
+  y = u .y *ℤ pos m +ℤ v .y *ℤ pos n;
+  z = u .z *ℤ pos m +ℤ v .z *ℤ pos n;
+}
+
+-- ---- a ray and a point
+
+-- c, a point's centre
+abbrev pub centre : Node → Position
+centre p = record { x = p .x; y = p .y; z = p .z }
+
+-- r, its radius
+abbrev pub radius : Node → ℕ
+radius p = natAbs (p .radius)
+
+-- A − c
+abbrev pub toStart : Ray → Node → Offset
+toStart ray p = difference (ray .start) (centre p)
+
+-- B − A
+abbrev pub direction : Ray → Offset
+direction ray = difference (ray .end) (ray .start)
+
+-- S: |dx| + |dy| + |dz|
+abbrev pub extent : Ray → ℕ
+extent ray = natAbs (direction ray .x) + natAbs (direction ray .y) + natAbs (direction ray .z)
+
+-- the place n/m as seen from a point's centre, times m: m (A − c) + n (B − A)
+abbrev pub seen : Ray → Node → ℕ → ℕ → Offset
+seen ray p n m = combination (toStart ray p) m (direction ray) n
+
+-- d² × m²
+unfoldable pub squaredDistance : Ray → Node → ℕ → ℕ → ℕ
+squaredDistance ray p n m = natAbs (inner (seen ray p n m) (seen ray p n m))
+
+-- ---- spans (the document's stretches): from i/T to j/T of the way, T a number of ticks
+
+-- tick t of a ray cut into T
+abbrev pub tick : ℕ → ℕ → Span
+tick t T = record { from = t; to = t + 1; ticks = T }
+
+-- a place n/m that the span holds: i × m ≤ T × n ≤ j × m
+pub record Place (s : Span) : Type 0 where
+  pub n : ℕ
+  pub m : ℕ
+  pub proper : 1 ≤ m
+  pub after : s .from * m ≤ s .ticks * n
+  pub before : s .ticks * n ≤ s .to * m
+
+-- the ray that stays at one place, and its start alone: the place 0/1
+abbrev pub still : Position → Ray
+still p = record { start = p; end = p }
+
+abbrev pub atStart : Span
+atStart = record { from = 0; to = 0; ticks = 1 }

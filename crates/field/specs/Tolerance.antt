@@ -1,0 +1,28 @@
+-- How far the exact field may be from the iso-value in a crossing tick (demand 3): the size of the weight times (4 S/(T r) + 1/16384), added over
+-- the tree's points. With T = 1,024 the first term is S/(256 r).
+use mathlib.Core.List.{List}
+use Prim.Native.Nat.{ℕ, _*_}
+use lib.IntN.{pos, natAbs}
+use Rattle.exact.specs.Fraction.{Fraction, _over_, plus, times}
+use Rattle.part.specs.declared.Node.{Node}
+use Rattle.field.specs.declared.Ray.{Ray}
+use Rattle.field.specs.Ray.{radius, extent}
+use Rattle.field.specs.Kernel.{Kernel}
+use Rattle.field.specs.Tree.{Algebra, items, treeValue}
+
+unfoldable pub pointTolerance : Kernel → Ray → ℕ → Node → Fraction
+pointTolerance k ray T p = times (pos (natAbs (p .weight))) (plus (pos (k .slope * extent ray) over (T * radius p)) (k .slack))
+
+-- demand 3's own figures: |w| × (S/(256 r) + 1/16384)
+unfoldable pub demandedOf : Ray → Node → Fraction
+demandedOf ray p = times (pos (natAbs (p .weight))) (plus (pos (extent ray) over (256 * radius p)) (pos 1 over 16384))
+
+-- every operator adds
+abbrev pub adding : (Node → Fraction) → Algebra Node Fraction
+adding f = record { value = f; join = λ o x y. plus x y }
+
+unfoldable pub tolerance : Kernel → Ray → ℕ → List Node → Fraction
+tolerance k ray T ns = treeValue (adding (pointTolerance k ray T)) (pos 0 over 1) (items ns)
+
+unfoldable pub demanded : Ray → List Node → Fraction
+demanded ray ns = treeValue (adding (demandedOf ray)) (pos 0 over 1) (items ns)
