@@ -1,2 +1,16 @@
 pub mod Tree
+pub mod Distances
+pub mod Nearest
+pub mod Extremes
+pub mod Between
+pub mod Width
+pub mod Kernels
+pub mod Points
+pub mod Operators
+pub mod Enclosure
+pub mod States
+pub mod Nested
+pub mod Tolerance
+pub mod Sum
+pub mod Marks
 pub mod Cases

@@ -63,6 +63,11 @@ squaredDistance ray p n m = natAbs (inner (seen ray p n m) (seen ray p n m))
 abbrev pub tick : ℕ → ℕ → Span
 tick t T = record { from = t; to = t + 1; ticks = T }
 
+-- a span that has places
+pub record Ordered (s : Span) : Type 0 where
+  pub ticks-low : 1 ≤ s .ticks
+  pub order : s .from ≤ s .to
+
 -- a place n/m that the span holds: i × m ≤ T × n ≤ j × m
 pub record Place (s : Span) : Type 0 where
   pub n : ℕ
@@ -70,6 +75,11 @@ pub record Place (s : Span) : Type 0 where
   pub proper : 1 ≤ m
   pub after : s .from * m ≤ s .ticks * n
   pub before : s .ticks * n ≤ s .to * m
+
+-- the span t lies within the span s; the two may count by different ticks
+pub record Inside (t s : Span) : Type 0 where
+  pub from : s .from * t .ticks ≤ t .from * s .ticks
+  pub to : t .to * s .ticks ≤ s .to * t .ticks
 
 -- the ray that stays at one place, and its start alone: the place 0/1
 abbrev pub still : Position → Ray

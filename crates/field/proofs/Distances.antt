@@ -1,0 +1,69 @@
+-- The numbers e, m and a of a ray and a point, from the coordinates: the squared distance at a place is a sum of three squares, and so is the
+-- foot's, so neither is negative (`real`). `distance-is ray p n m : distanceAt (raySquare ray) (prepare ray p) n m ≡ squaredDistance ray p n m`.
+use mathlib.Core.Path.{_≡_, sym, _∙_, ap, subst}
+use Prim.Native.Nat.{ℕ, _≤_}
+use lib.IntN.{ℤ, pos, natAbs, _-ℤ_, _*ℤ_}
+use lib.Signed.{_≤ℤ_}
+use Rattle.exact.specs.Distance.{dist}
+use Rattle.exact.proofs.Order.{≤ℤ-trans, pos-reflect}
+use Rattle.exact.proofs.Absolute.{le-natAbs, pos-natAbs-nn}
+use Rattle.exact.proofs.Vector.{nn-square3}
+use Rattle.exact.proofs.Distance.{dist-squares, foot-squares}
+use Rattle.part.specs.declared.Node.{Node}
+use Rattle.part.specs.Accepted.{PointRanges}
+use Rattle.field.specs.declared.Ray.{Ray}
+use Rattle.field.specs.declared.Offset.{Offset}
+use Rattle.field.specs.Ray.{inner, radius, toStart, direction, seen, squaredDistance}
+use Rattle.field.specs.Bounds.{raySquare, prepare, distanceAt, footDistance}
+use Rattle.field.specs.Ranges.{Real}
+
+inner-nn : (u : Offset) → pos 0 ≤ℤ inner u u
+inner-nn u = nn-square3 (u .x) (u .y) (u .z)
+
+pub radius-pos : {p : Node} → PointRanges p → 1 ≤ radius p
+radius-pos {p} h = pos-reflect (≤ℤ-trans (h .radius-low) (le-natAbs (p .radius)))
+
+module _ (ray : Ray) (p : Node) where
+  abbrev pub e : ℤ
+  e = prepare ray p .e
+
+  abbrev pub m : ℤ
+  m = prepare ray p .m
+
+  abbrev pub a : ℤ
+  a = raySquare ray
+
+  -- |m (A − c) + n (B − A)|²
+  squares : (n d : ℕ) → dist e m a (pos n) (pos d) ≡ inner (seen ray p n d) (seen ray p n d)
+  unfolding prepare raySquare
+  squares n d =
+      let u = toStart ray p in
+      let v = direction ray in
+      dist-squares (u .x) (u .y) (u .z) (v .x) (v .y) (v .z) (pos n) (pos d)
+
+  pub real : Real e m a
+  unfolding prepare raySquare
+  real =
+      let u = toStart ray p in
+      let v = direction ray in
+      record {
+        a-nn = inner-nn v;
+        dist-nn = λ n d. subst (λ (z : ℤ). pos 0 ≤ℤ z) (sym (squares n d)) (inner-nn (seen ray p n d));
+        foot-nn = subst (λ (z : ℤ). pos 0 ≤ℤ z) (sym (foot-squares (u .x) (u .y) (u .z) (v .x) (v .y) (v .z)))
+            (nn-square3 (u .x *ℤ v .y -ℤ u .y *ℤ v .x) (u .x *ℤ v .z -ℤ u .z *ℤ v .x) (u .y *ℤ v .z -ℤ u .z *ℤ v .y));
+      }
+
+  pub distance-is : (n d : ℕ) → distanceAt a (prepare ray p) n d ≡ squaredDistance ray p n d
+  unfolding distanceAt squaredDistance
+  distance-is n d = ap natAbs (squares n d)
+
+  pub squared-sum : (n d : ℕ) → pos (squaredDistance ray p n d) ≡ inner (seen ray p n d) (seen ray p n d)
+  unfolding squaredDistance
+  squared-sum n d = pos-natAbs-nn (inner-nn (seen ray p n d))
+
+  pub squared-is : (n d : ℕ) → pos (squaredDistance ray p n d) ≡ dist e m a (pos n) (pos d)
+  squared-is n d = squared-sum n d ∙ sym (squares n d)
+
+  pub foot-is : pos (footDistance a (prepare ray p)) ≡ e *ℤ a -ℤ m *ℤ m
+  unfolding footDistance
+  foot-is = pos-natAbs-nn (real .foot-nn)

@@ -1,0 +1,65 @@
+-- What the proofs ask of a kernel (`Lawful`), and that document 01's kernel has it (`quartic-lawful`). All else holds of every lawful kernel.
+use mathlib.Core.Path.{_≡_, sym, ap, subst}
+use mathlib.Core.Logic.{inl, inr}
+use Prim.Native.Nat.{ℕ, _+_, _*_, _-_, _^_, _≤_, _<_}
+use native.Mathlib.Nat.{le-of-eq, mul-le-mul, mul-le-mul-right}
+use native.Mathlib.Omega.{arith}
+use lib.IntN.{pos}
+use lib.Signed.{_≤ℤ_}
+use Rattle.exact.specs.Fraction.{_over_, Proper, _≼_, plus}
+use Rattle.exact.proofs.Ring.{_⊕_, _⊖_, _⊗_, #, _≔_, ring}
+use Rattle.exact.proofs.Order.{nn-add, nn-mul, nn-pos, sub-nn, pos-mono, pos-reflect, pos-inj}
+use Rattle.exact.proofs.Certificates.{_≦_by_, le}
+use Rattle.exact.proofs.Naturals.{≤-total, pow-two}
+use Rattle.field.specs.Kernel.{Kernel, quartic}
+use Rattle.field.specs.Bounds.{units}
+
+pub record Lawful (k : Kernel) : Type 0 where
+  -- the two sizes are 2³² × (q/65536)^power, rounded down and up
+  pub down : (q : ℕ) → k .low q * 65536 ^ k .power ≤ q ^ k .power * 4294967296
+  pub up : (q : ℕ) → q ^ k .power * 4294967296 ≤ k .high q * 65536 ^ k .power
+  -- more q, no smaller a size
+  pub low-rises : {q q′ : ℕ} → q ≤ q′ → k .low q ≤ k .low q′
+  pub high-rises : {q q′ : ℕ} → q ≤ q′ → k .high q ≤ k .high q′
+  -- q as close as those of one tick (`tick-width`; t is T r) give sizes within the tolerance
+  pub slack-proper : Proper (k .slack)
+  pub slack-nn : pos 0 ≤ℤ k .slack .num
+  pub narrow : (qlo qhi S t : ℕ) → qlo ≤ 65536 → qhi ≤ 65536 → (qhi - qlo) * t ≤ 131072 * S + 2 * t
+      → units (pos (k .high qhi - k .low qlo)) ≼ plus (pos (k .slope * S) over t) (k .slack)
+
+-- h² − l² ≤ 2 · 65536 · (h − l)
+squares : (l h : ℕ) → h ≤ 65536 → h * h ≤ l * l + 131072 * (h - l)
+squares l h b = elim (≤-total h l) [
+  | inl k ↦ (let f : h * h ≤ l * l = mul-le-mul k k in omega arith)
+  | inr k ↦ (let e : h ≡ l + (h - l) = omega arith in subst (λ (x : ℕ). x * x ≤ l * l + 131072 * (h - l)) (sym e) (more l (h - l) (omega arith)))
+]
+  where
+    more : (l g : ℕ) → l + g ≤ 65536 → (l + g) * (l + g) ≤ l * l + 131072 * g
+    more l g b =
+        pos-reflect (le 2 (λ l g. (l ⊕ g) ⊗ (l ⊕ g) ≦ l ⊗ l ⊕ # 131072 ⊗ g by g ⊗ (# 2 ⊗ (# 65536 ⊖ (l ⊕ g)) ⊕ g)) tt (pos l) (pos g)
+        (nn-mul (nn-pos g) (nn-add (nn-mul (nn-pos 2) (sub-nn (pos-mono b))) (nn-pos g))))
+
+pub quartic-lawful : Lawful quartic
+unfolding plus
+quartic-lawful = record {
+  down = λ q. le-of-eq (ap (λ (x : ℕ). x * 4294967296) (sym (pow-two q)));
+  up = λ q. le-of-eq (ap (λ (x : ℕ). x * 4294967296) (pow-two q));
+  low-rises = λ h. mul-le-mul h h;
+  high-rises = λ h. mul-le-mul h h;
+  slack-proper = omega arith;
+  slack-nn = nn-pos 1;
+  narrow = λ qlo qhi S t a b h. record { cross = pos-mono (last S t (qhi - qlo) (qhi * qhi - qlo * qlo) h (less (qlo * qlo) (qhi * qhi) (qhi - qlo) (squares qlo qhi b))) };
+}
+  where
+    less : (x y g : ℕ) → y ≤ x + 131072 * g → y - x ≤ 131072 * g
+    less x y g h = omega arith
+
+    spread : (v g t : ℕ) → v ≤ 131072 * g → v * t ≤ 131072 * (g * t)
+    spread v g t h =
+        subst (λ (x : ℕ). v * t ≤ x) (pos-inj (ring 2 (λ g t. # 131072 ⊗ g ⊗ t ≔ # 131072 ⊗ (g ⊗ t)) tt (pos g) (pos t))) (mul-le-mul-right t h)
+
+    last : (S t g v : ℕ) → g * t ≤ 131072 * S + 2 * t → v ≤ 131072 * g → v * (t * 16384) ≤ (4 * S * 16384 + 1 * t) * 4294967296
+    last S t g v h k =
+        let f : v * t ≤ 131072 * (g * t) = spread v g t k in
+        let e : v * (t * 16384) ≡ v * t * 16384 = pos-inj (ring 2 (λ v t. v ⊗ (t ⊗ # 16384) ≔ v ⊗ t ⊗ # 16384) tt (pos v) (pos t)) in
+        subst (λ (x : ℕ). x ≤ (4 * S * 16384 + 1 * t) * 4294967296) (sym e) (omega arith)

@@ -1,0 +1,112 @@
+-- Theorem 2. A span within a span has no looser bounds, for a point (`point-nested`) and for every tree (`tree-nested`); so what decides a span
+-- decides each span in it alike (`state-nested`). The two spans may count by different ticks.
+use mathlib.Core.Path.{_≡_, sym}
+use mathlib.Core.List.{List}
+use Prim.Native.Nat.{ℕ, _*_, _≤_}
+use native.Mathlib.Nat.{le-trans, le-of-eq, mul-le-mul-right, le-of-mul-le-mul-right}
+use lib.IntN.{pos}
+use Rattle.exact.proofs.Ring.{_⊗_, _≔_, ring}
+use Rattle.exact.proofs.Order.{≤ℤ-trans, ≤ℤ-<ℤ-trans, pos-inj, pos-reflect}
+use Rattle.exact.proofs.Rounding.{floor-mono, ceil-mono}
+use Rattle.part.specs.declared.Node.{Node}
+use Rattle.part.specs.Accepted.{PointRanges, Tree}
+use Rattle.field.specs.declared.Ray.{Ray}
+use Rattle.field.specs.declared.Span.{Span}
+use Rattle.field.specs.declared.Bounds.{Bounds}
+use Rattle.field.specs.Ray.{radius, Ordered, Place, Inside}
+use Rattle.field.specs.Kernel.{Kernel, reach, depth, u}
+use Rattle.field.specs.Tree.{items}
+use Rattle.field.specs.Bounds.{raySquare, prepare, qlo, qhi, pointBounds, boundingOn, noBounds, treeBounds, Within, stateOf}
+use Rattle.field.proofs.Tree.{value-related, tree-items}
+use Rattle.field.proofs.Distances.{radius-pos}
+use Rattle.field.proofs.Kernels.{Lawful}
+use Rattle.field.proofs.Extremes.{extremes}
+use Rattle.field.proofs.Between.{full-pos}
+use Rattle.field.proofs.Points.{point-within}
+use Rattle.field.proofs.Operators.{join-within}
+use Rattle.field.proofs.States.{empty-high, inside-low, empty-state, inside-state}
+use Rattle.field.proofs.Enclosure.{low-le-high}
+
+-- ---- the places of the inner span are places of the outer one
+
+pub widen : {t s : Span} → 1 ≤ t .ticks → Inside t s → Place t → Place s
+widen {t} {s} h w x = record {
+  n = x .n;
+  m = x .m;
+  proper = x .proper;
+  after =
+      le-of-mul-le-mul-right {k = t .ticks}
+      (le-trans (le-of-eq (swap (s .from) (x .m) (t .ticks)))
+      (le-trans (mul-le-mul-right (x .m) (w .from))
+      (le-trans (le-of-eq (swap (t .from) (s .ticks) (x .m)))
+      (le-trans (mul-le-mul-right (s .ticks) (x .after)) (le-of-eq (turn (t .ticks) (x .n) (s .ticks)))))))
+      h;
+  before =
+      le-of-mul-le-mul-right {k = t .ticks}
+      (le-trans (le-of-eq (sym (turn (t .ticks) (x .n) (s .ticks))))
+      (le-trans (mul-le-mul-right (s .ticks) (x .before))
+      (le-trans (le-of-eq (swap (t .to) (x .m) (s .ticks)))
+      (le-trans (mul-le-mul-right (x .m) (w .to)) (le-of-eq (swap (s .to) (t .ticks) (x .m)))))))
+      h;
+}
+  where
+    swap : (a b c : ℕ) → a * b * c ≡ a * c * b
+    swap a b c = pos-inj (ring 3 (λ a b c. a ⊗ b ⊗ c ≔ a ⊗ c ⊗ b) tt (pos a) (pos b) (pos c))
+
+    turn : (a b c : ℕ) → a * b * c ≡ c * b * a
+    turn a b c = pos-inj (ring 3 (λ a b c. a ⊗ b ⊗ c ≔ c ⊗ b ⊗ a) tt (pos a) (pos b) (pos c))
+
+-- ---- a point
+
+module _ (ray : Ray) (p : Node) (hr : 1 ≤ radius p) {t s : Span} (ot : Ordered t) (os : Ordered s) (w : Inside t s) where
+  low-nested : qlo (raySquare ray) (prepare ray p) s ≤ qlo (raySquare ray) (prepare ray p) t
+  unfolding u widen
+  low-nested =
+      let x = extremes ray p s hr os in
+      let y = extremes ray p t hr ot in
+      le-trans (le-of-eq (x .low-is))
+      (le-trans
+      (floor-mono 65536 (depth ray p (x .least .n) (x .least .m)) (reach p (x .least .m)) (depth ray p (y .least .n) (y .least .m)) (reach p (y .least .m))
+      (full-pos hr x (x .least)) (full-pos hr y (y .least)) (pos-reflect (x .is-least (widen (ot .ticks-low) w (y .least)) .cross)))
+      (le-of-eq (sym (y .low-is))))
+
+  high-nested : qhi (raySquare ray) (prepare ray p) t ≤ qhi (raySquare ray) (prepare ray p) s
+  unfolding u widen
+  high-nested =
+      let x = extremes ray p s hr os in
+      let y = extremes ray p t hr ot in
+      le-trans (le-of-eq (y .high-is))
+      (le-trans
+      (ceil-mono 65536 (depth ray p (y .greatest .n) (y .greatest .m)) (reach p (y .greatest .m)) (depth ray p (x .greatest .n) (x .greatest .m)) (reach p (x .greatest .m))
+      (full-pos hr y (y .greatest)) (full-pos hr x (x .greatest)) (pos-reflect (x .is-greatest (widen (ot .ticks-low) w (y .greatest)) .cross)))
+      (le-of-eq (sym (x .high-is))))
+
+  pub point-nested : (k : Kernel) → Lawful k → Within (pointBounds k (raySquare ray) t (prepare ray p)) (pointBounds k (raySquare ray) s (prepare ray p))
+  point-nested k law = point-within k law ray p hr s t low-nested high-nested
+
+-- ---- every tree
+
+pub tree-nested : (k : Kernel) → Lawful k → (ray : Ray) (ns : List Node) → Tree ns → {t s : Span} → Ordered t → Ordered s → Inside t s
+    → Within (treeBounds k ray t ns) (treeBounds k ray s ns)
+unfolding treeBounds
+tree-nested k law ray ns tree {t} {s} ot os w =
+    value-related (boundingOn k ray t) (boundingOn k ray s) Within PointRanges
+    (λ p h. point-nested ray p (radius-pos h) ot os w k law) (λ o a b c d. join-within o a b c d) (items ns) noBounds noBounds (tree-items ns tree)
+
+-- ---- a decided span
+
+-- what decides c decides b alike
+pub record Decides (iso : ℕ) (c b : Bounds) : Type 0 where
+  pub empty : stateOf iso c ≡ 0 → stateOf iso b ≡ 0
+  pub inside : stateOf iso c ≡ 2 → stateOf iso b ≡ 2
+
+pub state-nested : (k : Kernel) → Lawful k → (ray : Ray) (ns : List Node) → Tree ns → {t s : Span} → Ordered t → Ordered s → Inside t s → (iso : ℕ)
+    → Decides iso (treeBounds k ray s ns) (treeBounds k ray t ns)
+state-nested k law ray ns tree {t} {s} ot os w iso =
+    let n = tree-nested k law ray ns tree ot os w in
+    let b = treeBounds k ray t ns in
+    let c = treeBounds k ray s ns in
+    record {
+      empty = λ e. empty-state iso b (≤ℤ-<ℤ-trans (n .high) (empty-high iso c e));
+      inside = λ e. inside-state iso b (low-le-high k law ray ns tree ot) (≤ℤ-trans (inside-low iso c e) (n .low));
+    }
