@@ -14,7 +14,8 @@ use Rattle.field.specs.declared.BoundsAnswer.{BoundsAnswer}
 use Rattle.field.specs.declared.BoundsAnswer.the-variants.{Refused, Bounded}
 use Rattle.field.specs.Tree.{operatorOf, itemOf, items, joinTop, step, run, treeValue}
 use Rattle.field.specs.Bounds.{raySquare, prepare, distanceAt, footInside, footDistance, lowQ, highQ, qlo, qhi, weighted, pointBounds, joinBounds, treeBounds}
-use Rattle.field.specs.Place.{nearPosition, placeQuestions, placeAnswer, placeBounds}
+use Rattle.field.specs.Loading.{nearPosition}
+use Rattle.field.specs.Place.{placeQuestions, placeAnswer, placeBounds}
 
 -- a file of one point at the origin, iso 1: the two bytes of r, and those of w
 abbrev onePoint : ℕ → ℕ → ℕ → ℕ → List ℕ

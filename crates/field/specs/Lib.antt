@@ -7,4 +7,5 @@ pub mod Tolerance
 pub mod Marks
 pub mod Ranges
 pub mod Prepared
+pub mod Loading
 pub mod Place

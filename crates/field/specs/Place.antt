@@ -1,9 +1,7 @@
 -- The bounds at one whole-step place (document 01, "Calls"): questions 1 to 12, then the bounds of the tree at that place.
 use mathlib.Core.List.{List, [], _∷_, _++_}
-use mathlib.Core.Bool.{Bool, _&&_}
 use Prim.Native.Nat.{ℕ}
 use Rattle.part.specs.Questions.{Question, firstNo}
-use Rattle.part.specs.Nodes.{coordinate}
 use Rattle.part.specs.File.{fileQuestions, nodes}
 use Rattle.part.specs.declared.Verdict.{Verdict}
 use Rattle.part.specs.declared.Verdict.the-variants.{Yes, No}
@@ -14,10 +12,7 @@ use Rattle.field.specs.Ray.{still, atStart}
 use Rattle.field.specs.Kernel.{quartic}
 use Rattle.field.specs.Field.{fieldAt}
 use Rattle.field.specs.Bounds.{treeBounds, Encloses}
-
--- are a place's coordinates −2,047 to 2,047?
-unfoldable pub nearPosition : Position → Bool
-nearPosition p = coordinate (p .x) && coordinate (p .y) && coordinate (p .z)
+use Rattle.field.specs.Loading.{nearPosition}
 
 unfoldable pub placeQuestions : List ℕ → Position → List Question
 placeQuestions file p = fileQuestions file ++ (12, nearPosition p) ∷ []
