@@ -14,3 +14,5 @@ pub mod Tolerance
 pub mod Sum
 pub mod Marks
 pub mod Cases
+pub mod Quotients
+pub mod Stack
