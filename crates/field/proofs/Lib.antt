@@ -1,2 +1,3 @@
 pub mod Tree
 pub mod Cases
+pub mod Offsets
