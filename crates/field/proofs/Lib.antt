@@ -1,3 +1,4 @@
 pub mod Tree
 pub mod Cases
 pub mod Offsets
+pub mod Lists
