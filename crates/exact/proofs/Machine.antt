@@ -56,6 +56,10 @@ param h t = read (given h) t
 pub lit : {w : Width} (z : ℤ) → Holds w (natAbs z) z z
 lit z = given (record { abs = le-refl (natAbs z) })
 
+-- a cast to another signed width keeps the value
+pub recast : {w w′ : Width} {k : ℕ} {y z : ℤ} → Holds w k y z → Holds w′ k y z
+recast h = record { is = h .is; size = h .size }
+
 infixl 6 _⊞_ _⊟_
 infixl 7 _⊠_
 pub _⊞_ : {w : Width} {a b : ℕ} {x y u v : ℤ} → Holds w a x u → Holds w b y v → Holds w (a + b) (x +ℤ y) (u +ℤ v)

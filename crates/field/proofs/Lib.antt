@@ -14,5 +14,7 @@ pub mod Tolerance
 pub mod Sum
 pub mod Marks
 pub mod Cases
+pub mod Offsets
+pub mod Lists
 pub mod Quotients
 pub mod Stack

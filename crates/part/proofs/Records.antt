@@ -104,7 +104,7 @@ nodes-stored file n at l h =
     sets-whole (numbers (nodesFrom file n at)) l (6 * n) (numbers-length (nodesFrom file n at) ∙ ap (λ (k : ℕ). 6 * k) (nodes-length file n at)) h
 
 -- and each node is found at its place in the array
-in-after : (u l : List ℤ) (at : ℕ) → nodeIn (u ++ l) (length u + at) ≡ nodeIn l at
+pub in-after : (u l : List ℤ) (at : ℕ) → nodeIn (u ++ l) (length u + at) ≡ nodeIn l at
 unfolding nodeIn
 in-after u l at =
     rw (
