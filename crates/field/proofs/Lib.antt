@@ -18,3 +18,4 @@ pub mod Offsets
 pub mod Lists
 pub mod Quotients
 pub mod Stack
+pub mod Ready

@@ -10,12 +10,12 @@ use Rattle.part.specs.declared.Checked.the-variants.{Refused, Accepted}
 use Rattle.part.specs.declared.Verdict.{Verdict}
 use Rattle.part.specs.declared.Verdict.the-variants.{Yes, No}
 
-answer-accepted : (v : Verdict) (file : List ℕ) {n i : ℕ} → answerOf v file ≡ Accepted n i → v ≡ Yes
+pub answer-accepted : (v : Verdict) (file : List ℕ) {n i : ℕ} → answerOf v file ≡ Accepted n i → v ≡ Yes
 unfolding answerOf
 answer-accepted Yes file e = refl
 answer-accepted (No m) file e = let z : _≡_ {A = ℕ} 0 1 = cc in absurd (omega arith)
 
-answer-refused : (v : Verdict) (file : List ℕ) {n : ℕ} → answerOf v file ≡ Refused n → v ≡ No n
+pub answer-refused : (v : Verdict) (file : List ℕ) {n : ℕ} → answerOf v file ≡ Refused n → v ≡ No n
 unfolding answerOf
 answer-refused Yes file e = let z : _≡_ {A = ℕ} 0 1 = cc in absurd (omega arith)
 answer-refused (No m) file e = cc
