@@ -1,16 +1,15 @@
 -- The two quotients q of a point over a span: what is asked of their divisors, and that each is at most 65536.
 -- So the point's bounds are at most 2⁴⁴ in size: `point-small`.
-use mathlib.Core.Path.{_≡_, sym, ap, _∙_}
+use mathlib.Core.Path.{_≡_, sym}
 use mathlib.Core.Logic.{inl, inr}
-use mathlib.Core.Bool.{Bool, true, false, cond}
-use Prim.Native.Nat.{ℕ, zero, suc, _+_, _*_, _-_, _/_, _^_, _≤_, _<_, min, max}
-use native.Mathlib.Nat.{le-trans, le-of-eq, mul-le-mul, mul-pos, div-le-of-le-mul, sub-eq-zero-of-le, zero-div, div-eq-of-lt, mul-zero}
+use mathlib.Core.Bool.{true}
+use Prim.Native.Nat.{ℕ, zero, suc, _*_, _-_, _^_, _≤_, _<_, min}
+use native.Mathlib.Nat.{le-trans, le-of-eq, mul-le-mul, mul-pos, div-le-of-le-mul, sub-eq-zero-of-le, zero-div, mul-zero}
 use native.Mathlib.Omega.{arith}
 use lib.Dec.{lit≤}
 use lib.IntN.{ℤ, pos, negsuc, natAbs, negℤ, _*ℤ_}
 use lib.Signed.{ltZ, _≤ℤ_, _<ℤ_, clashℤ}
 use Rattle.exact.specs.Range.{Small}
-use Rattle.exact.specs.Rounding.{ceil}
 use Rattle.exact.proofs.Ring.{_⊗_, #, _≔_, ring}
 use Rattle.exact.proofs.Order.{≤ℤ-of-eq, ≤ℤ-trans, <ℤ-trans, nn-pos, pos-reflect}
 use Rattle.exact.proofs.Absolute.{pos-natAbs-nn, natAbs-mul}
@@ -62,7 +61,7 @@ low-q-le s d = div-le-of-le-mul s (omega arith)
 
 pub high-q-zero : (s d : ℕ) → 0 < s → s ≤ d → highQ s d ≡ 0
 unfolding highQ
-high-q-zero s d p h = let c = ceil-least (65536 * (s - d)) s 0 p (omega arith) in omega (arith, c)
+high-q-zero s d p h = omega (arith, ceil-least (65536 * (s - d)) s 0 p (omega arith))
 
 pub high-q-le : (s d : ℕ) → 0 < s → highQ s d ≤ 65536
 unfolding highQ
