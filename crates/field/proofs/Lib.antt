@@ -19,3 +19,4 @@ pub mod Lists
 pub mod Quotients
 pub mod Stack
 pub mod Ready
+pub mod Places
