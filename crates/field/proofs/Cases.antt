@@ -2,7 +2,7 @@
 use mathlib.Core.Path.{_≡_, refl}
 use mathlib.Core.List.{List, [], _∷_, _++_, map}
 use Prim.Native.Nat.{ℕ}
-use lib.IntN.{ℤ, pos, negsuc, negℤ}
+use lib.IntN.{ℤ, pos, negℤ}
 use Rattle.exact.specs.Extrema.{maxℤ}
 use Rattle.exact.specs.Rounding.{ceil}
 use Rattle.part.specs.Bytes.{u16, u32, i16, hasBytes, zeros}
@@ -14,7 +14,7 @@ use Rattle.field.specs.declared.BoundsAnswer.{BoundsAnswer}
 use Rattle.field.specs.declared.BoundsAnswer.the-variants.{Refused, Bounded}
 use Rattle.field.specs.Tree.{operatorOf, itemOf, items, joinTop, step, run, treeValue}
 use Rattle.field.specs.Bounds.{raySquare, prepare, distanceAt, footInside, footDistance, lowQ, highQ, qlo, qhi, weighted, pointBounds, joinBounds, treeBounds}
-use Rattle.field.specs.Loading.{nearPosition}
+use Rattle.field.specs.Loading.{positionInRange}
 use Rattle.field.specs.Place.{placeQuestions, placeAnswer, placeBounds}
 
 -- a file of one point at the origin, iso 1: the two bytes of r, and those of w
@@ -50,5 +50,5 @@ rows =
     ∷ []
 
 pub bounded : map (λ r. placeBounds (r .0) (r .1)) rows ≡ map (λ r. r .2) rows
-unfolding rows u16 u32 i16 hasBytes zeros firstNo isPoint kindKnown coordinate inRange forPoint forOperator heldAfter recordQuestions recordsQuestions iso version distance marked trailerQuestions start count nodeAt recordAt recordsFrom records nodesFrom nodes fileQuestions ceil maxℤ operatorOf itemOf items joinTop step run treeValue raySquare prepare distanceAt footInside footDistance lowQ highQ qlo qhi weighted pointBounds joinBounds treeBounds nearPosition placeQuestions placeAnswer placeBounds
+unfolding rows u16 u32 i16 hasBytes zeros firstNo isPoint kindKnown coordinate inRange forPoint forOperator heldAfter recordQuestions recordsQuestions iso version distance marked trailerQuestions start count nodeAt recordAt recordsFrom records nodesFrom nodes fileQuestions ceil maxℤ operatorOf itemOf items joinTop step run treeValue raySquare prepare distanceAt footInside footDistance lowQ highQ qlo qhi weighted pointBounds joinBounds treeBounds positionInRange placeQuestions placeAnswer placeBounds
 bounded = refl

@@ -13,9 +13,9 @@ use Rattle.part.specs.declared.Node.{Node}
 use Rattle.part.specs.Accepted.{PointRanges}
 use Rattle.field.specs.declared.Ray.{Ray}
 use Rattle.field.specs.declared.Offset.{Offset}
-use Rattle.field.specs.Ray.{inner, radius, toStart, direction, seen, squaredDistance}
+use Rattle.field.specs.Ray.{inner, radius, toStart, direction, fromCentre, squaredDistance}
 use Rattle.field.specs.Bounds.{raySquare, prepare, distanceAt, footDistance}
-use Rattle.field.specs.Ranges.{Real}
+use Rattle.field.specs.Ranges.{NonNegative}
 
 inner-nn : (u : Offset) → pos 0 ≤ℤ inner u u
 inner-nn u = nn-square3 (u .x) (u .y) (u .z)
@@ -34,21 +34,21 @@ module _ (ray : Ray) (p : Node) where
   a = raySquare ray
 
   -- |m (A − c) + n (B − A)|²
-  squares : (n d : ℕ) → dist e m a (pos n) (pos d) ≡ inner (seen ray p n d) (seen ray p n d)
+  squares : (n d : ℕ) → dist e m a (pos n) (pos d) ≡ inner (fromCentre ray p n d) (fromCentre ray p n d)
   unfolding prepare raySquare
   squares n d =
       let u = toStart ray p in
       let v = direction ray in
       dist-squares (u .x) (u .y) (u .z) (v .x) (v .y) (v .z) (pos n) (pos d)
 
-  pub real : Real e m a
+  pub real : NonNegative e m a
   unfolding prepare raySquare
   real =
       let u = toStart ray p in
       let v = direction ray in
       record {
         a-nn = inner-nn v;
-        dist-nn = λ n d. subst (λ (z : ℤ). pos 0 ≤ℤ z) (sym (squares n d)) (inner-nn (seen ray p n d));
+        dist-nn = λ n d. subst (λ (z : ℤ). pos 0 ≤ℤ z) (sym (squares n d)) (inner-nn (fromCentre ray p n d));
         foot-nn = subst (λ (z : ℤ). pos 0 ≤ℤ z) (sym (foot-squares (u .x) (u .y) (u .z) (v .x) (v .y) (v .z)))
             (nn-square3 (u .x *ℤ v .y -ℤ u .y *ℤ v .x) (u .x *ℤ v .z -ℤ u .z *ℤ v .x) (u .y *ℤ v .z -ℤ u .z *ℤ v .y));
       }
@@ -57,9 +57,9 @@ module _ (ray : Ray) (p : Node) where
   unfolding distanceAt squaredDistance
   distance-is n d = ap natAbs (squares n d)
 
-  pub squared-sum : (n d : ℕ) → pos (squaredDistance ray p n d) ≡ inner (seen ray p n d) (seen ray p n d)
+  pub squared-sum : (n d : ℕ) → pos (squaredDistance ray p n d) ≡ inner (fromCentre ray p n d) (fromCentre ray p n d)
   unfolding squaredDistance
-  squared-sum n d = pos-natAbs-nn (inner-nn (seen ray p n d))
+  squared-sum n d = pos-natAbs-nn (inner-nn (fromCentre ray p n d))
 
   pub squared-is : (n d : ℕ) → pos (squaredDistance ray p n d) ≡ dist e m a (pos n) (pos d)
   squared-is n d = squared-sum n d ∙ sym (squares n d)

@@ -1,16 +1,14 @@
 -- Theorem 3. At every place of a span, low ≤ 2³² × the exact field ≤ high, for every tree: `enclosure`. Shown once for every operator.
 use mathlib.Core.List.{List}
-use Prim.Native.Nat.{ℕ, _≤_}
-use lib.IntN.{ℤ, pos}
+use lib.IntN.{pos}
 use lib.Signed.{_≤ℤ_}
-use Rattle.exact.specs.Fraction.{Fraction, _over_}
+use Rattle.exact.specs.Fraction.{_over_}
 use Rattle.exact.proofs.Order.{mul-cancel-le, pos-mono-lt}
 use Rattle.exact.proofs.Fractions.{≼-trans}
 use Rattle.part.specs.declared.Node.{Node}
 use Rattle.part.specs.Accepted.{PointRanges, Tree}
 use Rattle.field.specs.declared.Ray.{Ray}
 use Rattle.field.specs.declared.Span.{Span}
-use Rattle.field.specs.declared.Bounds.{Bounds}
 use Rattle.field.specs.Ray.{Ordered, Place}
 use Rattle.field.specs.Kernel.{Kernel}
 use Rattle.field.specs.Tree.{items}

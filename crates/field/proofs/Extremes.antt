@@ -1,8 +1,8 @@
 -- Theorem 1. Over every place of a span, fractional ones too, a point's u lies between two extremes; both are attained; and qlo and qhi are 65536
 -- times them, rounded down and up: `extremes ray p s hr o : Extremes ray p s`. The ray's ends may coincide.
-use mathlib.Core.Path.{_≡_, sym, _∙_, ap, ap₂, subst}
+use mathlib.Core.Path.{_≡_, sym, _∙_, ap, ap₂}
 use mathlib.Core.Bool.{cond}
-use Prim.Native.Nat.{ℕ, _-_, _*_, _/_, _≤_, _<_, min, max}
+use Prim.Native.Nat.{ℕ, _*_, _/_, _≤_, min, max}
 use native.Mathlib.Nat.{mul-pos, mul-le-mul-left, mul-left-comm}
 use lib.IntN.{ℤ, pos, natAbs, _-ℤ_, _*ℤ_}
 use Rattle.exact.specs.Distance.{dist}
@@ -15,10 +15,10 @@ use Rattle.part.specs.declared.Node.{Node}
 use Rattle.field.specs.declared.Ray.{Ray}
 use Rattle.field.specs.declared.Span.{Span}
 use Rattle.field.specs.Ray.{radius, squaredDistance, Ordered, Place}
-use Rattle.field.specs.Kernel.{reach, depth, u}
+use Rattle.field.specs.Kernel.{uDen, uNum, u}
 use Rattle.field.specs.Bounds.{raySquare, prepare, footInside, footDistance, lowQ, highQ, qlo, qhi}
 use Rattle.field.proofs.Distances.{real, distance-is, squared-is, foot-is}
-use Rattle.field.proofs.Nearest.{sq, Farthest, Nearest, inside, farthest, nearest}
+use Rattle.field.proofs.Nearest.{sq, Farthest, Nearest, farthest, nearest}
 
 -- u at a place of a span
 abbrev pub uAt : Ray → Node → {s : Span} → Place s → Fraction
@@ -29,8 +29,8 @@ pub record Extremes (ray : Ray) (p : Node) (s : Span) : Type 0 where
   pub greatest : Place s
   pub is-least : (x : Place s) → uAt ray p least ≼ uAt ray p x
   pub is-greatest : (x : Place s) → uAt ray p x ≼ uAt ray p greatest
-  pub low-is : qlo (raySquare ray) (prepare ray p) s ≡ 65536 * depth ray p (least .n) (least .m) / reach p (least .m)
-  pub high-is : qhi (raySquare ray) (prepare ray p) s ≡ ceil (65536 * depth ray p (greatest .n) (greatest .m)) (reach p (greatest .m))
+  pub low-is : qlo (raySquare ray) (prepare ray p) s ≡ 65536 * uNum ray p (least .n) (least .m) / uDen p (least .m)
+  pub high-is : qhi (raySquare ray) (prepare ray p) s ≡ ceil (65536 * uNum ray p (greatest .n) (greatest .m)) (uDen p (greatest .m))
 
 module _ (ray : Ray) (p : Node) (s : Span) (hr : 1 ≤ radius p) (o : Ordered s) where
   abbrev R : ℕ
@@ -55,16 +55,16 @@ module _ (ray : Ray) (p : Node) (s : Span) (hr : 1 ≤ radius p) (o : Ordered s)
   N-is = foot-is ray p ∙ ap (λ (z : ℤ). prepare ray p .e *ℤ z -ℤ prepare ray p .m *ℤ prepare ray p .m) (sym A-is)
 
   far : Farthest D s
-  far = farthest (prepare ray p .e) (prepare ray p .m) A N D D-is N-is s o
+  far = farthest (prepare ray p) A N D D-is N-is s o
 
-  near : Nearest (prepare ray p .m) A N D s
-  near = nearest (prepare ray p .e) (prepare ray p .m) A N D D-is N-is s o
+  near : Nearest (prepare ray p) A N D s
+  near = nearest (prepare ray p) A N D D-is N-is s o
 
   -- no farther, no less deep
   deeper : (x y : Place s) → D (x .n) (x .m) * sq y ≤ D (y .n) (y .m) * sq x → uAt ray p y ≼ uAt ray p x
   unfolding u
   deeper x y h =
-      record { cross = pos-mono (scale (depth ray p (y .n) (y .m)) (sq x) (depth ray p (x .n) (x .m)) (sq y) (clamp R (sq y) (sq x) (D (x .n) (x .m)) (D (y .n) (y .m)) h)) }
+      record { cross = pos-mono (scale (uNum ray p (y .n) (y .m)) (sq x) (uNum ray p (x .n) (x .m)) (sq y) (clamp R (sq y) (sq x) (D (x .n) (x .m)) (D (y .n) (y .m)) h)) }
     where
       scale : (a t b t′ : ℕ) → a * t ≤ b * t′ → a * (R * t) ≤ b * (R * t′)
       scale a t b t′ h = rw (mul-left-comm a R t, mul-left-comm b R t′) (mul-le-mul-left R h)
@@ -75,12 +75,12 @@ module _ (ray : Ray) (p : Node) (s : Span) (hr : 1 ≤ radius p) (o : Ordered s)
       ap₂ (λ (x y : ℕ). lowQ (R * (s .ticks * s .ticks)) (max x y)) (distance-is ray p (s .from) (s .ticks)) (distance-is ray p (s .to) (s .ticks))
 
   high-q : qhi (raySquare ray) (prepare ray p) s
-      ≡ cond (inside (prepare ray p .m) (pos A) s) (highQ (R * A) N) (highQ (R * (s .ticks * s .ticks)) (min (D (s .from) (s .ticks)) (D (s .to) (s .ticks))))
-  unfolding qhi prepare footInside
+      ≡ cond (footInside (pos A) (prepare ray p) s) (highQ (R * A) N) (highQ (R * (s .ticks * s .ticks)) (min (D (s .from) (s .ticks)) (D (s .to) (s .ticks))))
+  unfolding qhi prepare
   high-q =
-      ap₂ (λ (x y : ℕ). cond (inside (prepare ray p .m) (raySquare ray) s) (highQ (R * A) N) (highQ (R * (s .ticks * s .ticks)) (min x y)))
+      ap₂ (λ (x y : ℕ). cond (footInside (raySquare ray) (prepare ray p) s) (highQ (R * A) N) (highQ (R * (s .ticks * s .ticks)) (min x y)))
       (distance-is ray p (s .from) (s .ticks)) (distance-is ray p (s .to) (s .ticks))
-      ∙ ap (λ (z : ℤ). cond (inside (prepare ray p .m) z s) (highQ (R * A) N) (highQ (R * (s .ticks * s .ticks)) (min (D (s .from) (s .ticks)) (D (s .to) (s .ticks))))) (sym A-is)
+      ∙ ap (λ (z : ℤ). cond (footInside z (prepare ray p) s) (highQ (R * A) N) (highQ (R * (s .ticks * s .ticks)) (min (D (s .from) (s .ticks)) (D (s .to) (s .ticks))))) (sym A-is)
 
   pub extremes : Extremes ray p s
   extremes = record {

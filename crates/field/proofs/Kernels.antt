@@ -1,7 +1,7 @@
 -- What the proofs ask of a kernel (`Lawful`), and that document 01's kernel has it (`quartic-lawful`). All else holds of every lawful kernel.
 use mathlib.Core.Path.{_≡_, sym, ap, subst}
 use mathlib.Core.Logic.{inl, inr}
-use Prim.Native.Nat.{ℕ, _+_, _*_, _-_, _^_, _≤_, _<_}
+use Prim.Native.Nat.{ℕ, _+_, _*_, _-_, _^_, _≤_}
 use native.Mathlib.Nat.{le-of-eq, mul-le-mul, mul-le-mul-right}
 use native.Mathlib.Omega.{arith}
 use lib.IntN.{pos}
@@ -18,6 +18,8 @@ pub record Lawful (k : Kernel) : Type 0 where
   -- the two sizes are 2³² × (q/65536)^power, rounded down and up
   pub down : (q : ℕ) → k .low q * 65536 ^ k .power ≤ q ^ k .power * 4294967296
   pub up : (q : ℕ) → q ^ k .power * 4294967296 ≤ k .high q * 65536 ^ k .power
+  -- and at most 2³² where q is at most 65536
+  pub small : {q : ℕ} → q ≤ 65536 → (k .low q ≤ 2 ^ 32) × (k .high q ≤ 2 ^ 32)
   -- more q, no smaller a size
   pub low-rises : {q q′ : ℕ} → q ≤ q′ → k .low q ≤ k .low q′
   pub high-rises : {q q′ : ℕ} → q ≤ q′ → k .high q ≤ k .high q′
@@ -44,6 +46,7 @@ unfolding plus
 quartic-lawful = record {
   down = λ q. le-of-eq (ap (λ (x : ℕ). x * 4294967296) (sym (pow-two q)));
   up = λ q. le-of-eq (ap (λ (x : ℕ). x * 4294967296) (pow-two q));
+  small = λ h. (mul-le-mul h h, mul-le-mul h h);
   low-rises = λ h. mul-le-mul h h;
   high-rises = λ h. mul-le-mul h h;
   slack-proper = omega arith;

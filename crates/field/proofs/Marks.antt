@@ -1,15 +1,14 @@
 -- Theorem 5. Demand 3 for a tick judged alone, at every place of it: an empty tick's field is below the iso-value, an inside tick's is at or above it,
 -- and a crossing tick's differs from it by at most the tolerance (`marks`, for every T and every lawful kernel); with T = 1,024 and demand 3's own
 -- figures, `marks-1024`.
-use mathlib.Core.Path.{_≡_, sym, subst}
+use mathlib.Core.Path.{sym, subst}
 use mathlib.Core.Logic.{inl, inr}
 use mathlib.Core.List.{List}
-use Prim.Native.Nat.{ℕ, _*_, _≤_}
-use native.Mathlib.Nat.{mul-pos}
+use Prim.Native.Nat.{ℕ, _≤_}
 use native.Mathlib.Omega.{arith}
 use lib.IntN.{ℤ, pos, natAbs, _-ℤ_, _*ℤ_}
 use lib.Signed.{_≤ℤ_, _<ℤ_, clashℤ}
-use Rattle.exact.specs.Fraction.{Fraction, _over_, Proper, _≼_, plus, times}
+use Rattle.exact.specs.Fraction.{Fraction, _over_, Proper, _≼_, plus}
 use Rattle.exact.proofs.Ring.{_⊕_, _⊖_, ⊝_, _⊗_, #}
 use Rattle.exact.proofs.Order.{nn-pos, <ℤ-le, ≤ℤ-trans, mul-cancel-le, mul-mono-lt, le-or-lt, pos-mono-lt}
 use Rattle.exact.proofs.Absolute.{natAbs-is}

@@ -11,8 +11,8 @@ use lib.IntN.{ℤ, pos, negℤ, natAbs, _-ℤ_, _*ℤ_}
 use lib.Signed.{ltZ, _≤ℤ_, _<ℤ_, clashℤ}
 use Rattle.exact.specs.Distance.{dist}
 use Rattle.exact.specs.Rounding.{ceil}
-use Rattle.exact.proofs.Ring.{_⊕_, _⊖_, ⊝_, _⊗_, #, _≔_, ring}
-use Rattle.exact.proofs.Order.{nn-mul, nn-pos, sub-nn, <ℤ-le, <ℤ-trans, ≤ℤ-<ℤ-trans, le-or-lt, pos-inj, pos-mono, pos-reflect, pos-reflect-lt}
+use Rattle.exact.proofs.Ring.{_⊕_, _⊖_, ⊝_, _⊗_, _≔_, ring}
+use Rattle.exact.proofs.Order.{nn-pos, sub-nn, <ℤ-le, <ℤ-trans, le-or-lt, pos-inj, pos-reflect, pos-reflect-lt}
 use Rattle.exact.proofs.Absolute.{pos-natAbs-neg}
 use Rattle.exact.proofs.Tests.{ltZ-true, ltZ-false}
 use Rattle.exact.proofs.Certificates.{_≦_by_, le, nn}
@@ -21,7 +21,8 @@ use Rattle.exact.proofs.Rounding.{ceil-mono}
 use Rattle.exact.proofs.Distance.{FootOutside, dist-maxℕ, dist-minℕ, dist-footℕ, dist-foot-met}
 use Rattle.field.specs.declared.Span.{Span}
 use Rattle.field.specs.Ray.{Ordered, Place}
-use Rattle.field.specs.Bounds.{lowQ, highQ}
+use Rattle.field.specs.declared.Prepared.{Prepared}
+use Rattle.field.specs.Bounds.{footInside, lowQ, highQ}
 
 -- ---- the ends as places
 
@@ -54,15 +55,11 @@ pub record Farthest (D : ℕ → ℕ → ℕ) (s : Span) : Type 0 where
   pub q-is : (R : ℕ) → lowQ (R * (s .ticks * s .ticks)) (max (D (s .from) (s .ticks)) (D (s .to) (s .ticks)))
       ≡ 65536 * (R * sq place - D (place .n) (place .m)) / (R * sq place)
 
--- whether the foot is inside, as a test
-abbrev pub inside : ℤ → ℤ → Span → Bool
-inside m a s = ltZ (pos (s .from) *ℤ a) (negℤ (m *ℤ pos (s .ticks))) && ltZ (negℤ (m *ℤ pos (s .ticks))) (pos (s .to) *ℤ a)
-
-pub record Nearest (m : ℤ) (A N : ℕ) (D : ℕ → ℕ → ℕ) (s : Span) : Type 0 where
+pub record Nearest (p : Prepared) (A N : ℕ) (D : ℕ → ℕ → ℕ) (s : Span) : Type 0 where
   pub place : Place s
   pub is : (x : Place s) → D (place .n) (place .m) * sq x ≤ D (x .n) (x .m) * sq place
   pub q-is : (R : ℕ) → 0 < R
-      → cond (inside m (pos A) s) (highQ (R * A) N) (highQ (R * (s .ticks * s .ticks)) (min (D (s .from) (s .ticks)) (D (s .to) (s .ticks))))
+      → cond (footInside (pos A) p s) (highQ (R * A) N) (highQ (R * (s .ticks * s .ticks)) (min (D (s .from) (s .ticks)) (D (s .to) (s .ticks))))
       ≡ ceil (65536 * (R * sq place - D (place .n) (place .m))) (R * sq place)
 
 -- ---- the fraction at the foot: N/a is N a/a²
@@ -88,8 +85,11 @@ foot-scale A N k x h =
     le-trans (le-of-eq (pos-inj (ring 3 (λ N k A. N ⊗ A ⊗ k ≔ A ⊗ (N ⊗ k)) tt (pos N) (pos k) (pos A))))
     (le-trans (mul-le-mul-left A h) (le-of-eq (pos-inj (ring 2 (λ x A. A ⊗ (A ⊗ x) ≔ x ⊗ (A ⊗ A)) tt (pos x) (pos A)))))
 
-module _ (e m : ℤ) (A N : ℕ) (D : ℕ → ℕ → ℕ) (D-is : (n d : ℕ) → pos (D n d) ≡ dist e m (pos A) (pos n) (pos d))
-    (N-is : pos N ≡ e *ℤ pos A -ℤ m *ℤ m) (s : Span) (o : Ordered s) where
+module _ (p : Prepared) (A N : ℕ) (D : ℕ → ℕ → ℕ) (D-is : (n d : ℕ) → pos (D n d) ≡ dist (p .e) (p .m) (pos A) (pos n) (pos d))
+    (N-is : pos N ≡ p .e *ℤ pos A -ℤ p .m *ℤ p .m) (s : Span) (o : Ordered s) where
+  abbrev m : ℤ
+  m = p .m
+
   abbrev i : ℕ
   i = s .from
 
@@ -104,7 +104,7 @@ module _ (e m : ℤ) (A N : ℕ) (D : ℕ → ℕ → ℕ) (D-is : (n d : ℕ) �
   ends-max : (x : Place s) → D (x .n) (x .m) * (T * T) ≤ max (D i T) (D j T) * sq x
   ends-max x =
       rw (mul-comm (D (x .n) (x .m)) (T * T), mul-comm (max (D i T) (D j T)) (sq x))
-      (dist-maxℕ e m (pos A) i j T (x .n) (x .m) (D i T) (D j T) (D (x .n) (x .m)) (nn-pos A) (D-is i T) (D-is j T) (D-is (x .n) (x .m)) (x .after) (x .before))
+      (dist-maxℕ (p .e) m (pos A) i j T (x .n) (x .m) (D i T) (D j T) (D (x .n) (x .m)) (nn-pos A) (D-is i T) (D-is j T) (D-is (x .n) (x .m)) (x .after) (x .before))
 
   low-at : (t : ℕ) → max (D i T) (D j T) ≡ D t T → (R : ℕ)
       → lowQ (R * (T * T)) (max (D i T) (D j T)) ≡ 65536 * (R * (T * T) - D t T) / (R * (T * T))
@@ -138,10 +138,10 @@ module _ (e m : ℤ) (A N : ℕ) (D : ℕ → ℕ → ℕ) (D-is : (n d : ℕ) �
   ends-min : FootOutside m (pos A) (pos i) (pos j) (pos T) → (x : Place s) → min (D i T) (D j T) * sq x ≤ D (x .n) (x .m) * (T * T)
   ends-min out x =
       rw (mul-comm (min (D i T) (D j T)) (sq x), mul-comm (D (x .n) (x .m)) (T * T))
-      (dist-minℕ e m (pos A) i j T (x .n) (x .m) (D i T) (D j T) (D (x .n) (x .m)) (nn-pos A) (D-is i T) (D-is j T) (D-is (x .n) (x .m)) (x .after) (x .before) out)
+      (dist-minℕ (p .e) m (pos A) i j T (x .n) (x .m) (D i T) (D j T) (D (x .n) (x .m)) (nn-pos A) (D-is i T) (D-is j T) (D-is (x .n) (x .m)) (x .after) (x .before) out)
 
   abbrev Near : ℕ → ℕ
-  Near R = cond (inside m (pos A) s) (highQ (R * A) N) (highQ (R * (T * T)) (min (D i T) (D j T)))
+  Near R = cond (footInside (pos A) p s) (highQ (R * A) N) (highQ (R * (T * T)) (min (D i T) (D j T)))
 
   abbrev AtEnd : Type 0
   AtEnd = (R : ℕ) → Near R ≡ highQ (R * (T * T)) (min (D i T) (D j T))
@@ -150,7 +150,7 @@ module _ (e m : ℤ) (A N : ℕ) (D : ℕ → ℕ → ℕ) (D-is : (n d : ℕ) �
   unfolding highQ
   high-at q t h R hR = q R ∙ ap (λ (x : ℕ). ceil (65536 * (R * (T * T) - x)) (R * (T * T))) h
 
-  at-end : FootOutside m (pos A) (pos i) (pos j) (pos T) → AtEnd → Nearest m A N D s
+  at-end : FootOutside m (pos A) (pos i) (pos j) (pos T) → AtEnd → Nearest p A N D s
   unfolding first last
   at-end out q = go (≤-total (D i T) (D j T))
     where
@@ -160,7 +160,7 @@ module _ (e m : ℤ) (A N : ℕ) (D : ℕ → ℕ → ℕ) (D-is : (n d : ℕ) �
       right : (x y : ℕ) → y ≤ x → min x y ≡ y
       right x y h = omega arith
 
-      go : (D i T ≤ D j T) ⊎ (D j T ≤ D i T) → Nearest m A N D s
+      go : (D i T ≤ D j T) ⊎ (D j T ≤ D i T) → Nearest p A N D s
       go (inl h) = record {
         place = first o;
         is = λ x. subst (λ (k : ℕ). k * sq x ≤ D (x .n) (x .m) * (T * T)) (left (D i T) (D j T) h) (ends-min out x);
@@ -204,27 +204,28 @@ module _ (e m : ℤ) (A N : ℕ) (D : ℕ → ℕ → ℕ) (D-is : (n d : ℕ) �
   foot-met : (pos i *ℤ pos A) <ℤ foot → D (natAbs m) A ≡ N * A
   foot-met h =
       pos-inj (D-is (natAbs m) A
-      ∙ ap (λ (x : ℤ). dist e m (pos A) x (pos A)) (sym (below h))
-      ∙ dist-foot-met e m (pos A)
+      ∙ ap (λ (x : ℤ). dist (p .e) m (pos A) x (pos A)) (sym (below h))
+      ∙ dist-foot-met (p .e) m (pos A)
       ∙ ap (λ (x : ℤ). x *ℤ pos A) (sym N-is))
 
-  at-foot : (pos i *ℤ pos A) <ℤ foot → foot <ℤ (pos j *ℤ pos A) → ((R : ℕ) → Near R ≡ highQ (R * A) N) → Nearest m A N D s
+  at-foot : (pos i *ℤ pos A) <ℤ foot → foot <ℤ (pos j *ℤ pos A) → ((R : ℕ) → Near R ≡ highQ (R * A) N) → Nearest p A N D s
   unfolding foot-place
   at-foot h k q = record {
     place = foot-place h k;
     is = λ x. subst (λ (z : ℕ). z * sq x ≤ D (x .n) (x .m) * (A * A)) (sym (foot-met h))
-        (foot-scale A N (sq x) (D (x .n) (x .m)) (dist-footℕ e m A (x .n) (x .m) (D (x .n) (x .m)) N (D-is (x .n) (x .m)) N-is));
+        (foot-scale A N (sq x) (D (x .n) (x .m)) (dist-footℕ (p .e) m A (x .n) (x .m) (D (x .n) (x .m)) N (D-is (x .n) (x .m)) N-is));
     q-is = λ R hR. q R ∙ high-ratio A R (a-pos h k) hR N (D (natAbs m) A) (foot-met h);
   }
 
-  pub nearest : Nearest m A N D s
+  pub nearest : Nearest p A N D s
+  unfolding footInside
   nearest = go (ltZ (pos i *ℤ pos A) foot) (ltZ foot (pos j *ℤ pos A)) refl refl
     where
       on : (b c : Bool) → ltZ (pos i *ℤ pos A) foot ≡ b → ltZ foot (pos j *ℤ pos A) ≡ c → (R : ℕ)
           → Near R ≡ cond (b && c) (highQ (R * A) N) (highQ (R * (T * T)) (min (D i T) (D j T)))
       on b c h k R = ap₂ (λ (b c : Bool). cond (b && c) (highQ (R * A) N) (highQ (R * (T * T)) (min (D i T) (D j T)))) h k
 
-      go : (b c : Bool) → ltZ (pos i *ℤ pos A) foot ≡ b → ltZ foot (pos j *ℤ pos A) ≡ c → Nearest m A N D s
+      go : (b c : Bool) → ltZ (pos i *ℤ pos A) foot ≡ b → ltZ foot (pos j *ℤ pos A) ≡ c → Nearest p A N D s
       go true true h k = at-foot (ltZ-true (pos i *ℤ pos A) foot h) (ltZ-true foot (pos j *ℤ pos A) k) (on true true h k)
       go true false h k = at-end (inr (ltZ-false foot (pos j *ℤ pos A) k)) (on true false h k)
       go false c h k = at-end (inl (ltZ-false (pos i *ℤ pos A) foot h)) (on false c h k)

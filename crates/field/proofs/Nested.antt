@@ -14,7 +14,7 @@ use Rattle.field.specs.declared.Ray.{Ray}
 use Rattle.field.specs.declared.Span.{Span}
 use Rattle.field.specs.declared.Bounds.{Bounds}
 use Rattle.field.specs.Ray.{radius, Ordered, Place, Inside}
-use Rattle.field.specs.Kernel.{Kernel, reach, depth, u}
+use Rattle.field.specs.Kernel.{Kernel, uDen, uNum, u}
 use Rattle.field.specs.Tree.{items}
 use Rattle.field.specs.Bounds.{raySquare, prepare, qlo, qhi, pointBounds, boundingOn, noBounds, treeBounds, Within, stateOf}
 use Rattle.field.proofs.Tree.{value-related, tree-items}
@@ -66,7 +66,7 @@ module _ (ray : Ray) (p : Node) (hr : 1 ≤ radius p) {t s : Span} (ot : Ordered
       let y = extremes ray p t hr ot in
       le-trans (le-of-eq (x .low-is))
       (le-trans
-      (floor-mono 65536 (depth ray p (x .least .n) (x .least .m)) (reach p (x .least .m)) (depth ray p (y .least .n) (y .least .m)) (reach p (y .least .m))
+      (floor-mono 65536 (uNum ray p (x .least .n) (x .least .m)) (uDen p (x .least .m)) (uNum ray p (y .least .n) (y .least .m)) (uDen p (y .least .m))
       (full-pos hr x (x .least)) (full-pos hr y (y .least)) (pos-reflect (x .is-least (widen (ot .ticks-low) w (y .least)) .cross)))
       (le-of-eq (sym (y .low-is))))
 
@@ -77,7 +77,7 @@ module _ (ray : Ray) (p : Node) (hr : 1 ≤ radius p) {t s : Span} (ot : Ordered
       let y = extremes ray p t hr ot in
       le-trans (le-of-eq (y .high-is))
       (le-trans
-      (ceil-mono 65536 (depth ray p (y .greatest .n) (y .greatest .m)) (reach p (y .greatest .m)) (depth ray p (x .greatest .n) (x .greatest .m)) (reach p (x .greatest .m))
+      (ceil-mono 65536 (uNum ray p (y .greatest .n) (y .greatest .m)) (uDen p (y .greatest .m)) (uNum ray p (x .greatest .n) (x .greatest .m)) (uDen p (x .greatest .m))
       (full-pos hr y (y .greatest)) (full-pos hr x (x .greatest)) (pos-reflect (x .is-greatest (widen (ot .ticks-low) w (y .greatest)) .cross)))
       (le-of-eq (sym (x .high-is))))
 

@@ -1,14 +1,17 @@
 -- What depends on the operators, each law by cases over them: an operator's bounds enclose its value (`join-encloses`), are no looser for operands
--- that are no looser (`join-within`), and are no wider than its operands' tolerances added (`join-narrow`).
+-- that are no looser (`join-within`), are no wider than its operands' tolerances added (`join-narrow`) and no larger than they (`join-size`).
 use mathlib.Core.Path.{_≡_, sym, subst}
 use mathlib.Core.Logic.{inl, inr}
-use lib.IntN.{ℤ, pos, _+ℤ_, _-ℤ_}
+use Prim.Native.Nat.{ℕ, _+_, _≤_}
+use native.Mathlib.Omega.{arith}
+use lib.IntN.{ℤ, pos, natAbs, _+ℤ_, _-ℤ_}
 use lib.Signed.{_≤ℤ_}
 use Rattle.exact.specs.Extrema.{maxℤ}
-use Rattle.exact.specs.Fraction.{Fraction, _over_, Proper, _≼_, plus, greater}
+use Rattle.exact.specs.Fraction.{Fraction, Proper, _≼_, plus, greater}
 use Rattle.exact.proofs.Ring.{_⊕_, _⊖_, _≔_, ring}
 use Rattle.exact.proofs.Order.{≤ℤ-of-eq, add-mono, sub-mono}
-use Rattle.exact.proofs.Extrema.{max-is, le-max-l, le-max-r, max-mono}
+use Rattle.exact.proofs.Absolute.{natAbs-add}
+use Rattle.exact.proofs.Extrema.{max-is, le-max-l, le-max-r, max-mono, natAbs-max}
 use Rattle.exact.proofs.Fractions.{≼-trans, ≼-over, plus-proper, plus-mono, plus-over, plus-up, plus-nn, greater-is}
 use Rattle.field.specs.declared.Bounds.{Bounds}
 use Rattle.field.specs.Tree.{Operator}
@@ -102,3 +105,14 @@ unfolding joinBounds
 join-narrow Operator.sum a b x y h k =
     both a b (sumOf a b) x y h k (ring 4 (λ l h m i. h ⊕ i ⊖ (l ⊕ m) ≔ h ⊖ l ⊕ (i ⊖ m)) tt (a .low) (a .high) (b .low) (b .high))
 join-narrow Operator.greater a b x y h k = greater-narrow a b x y h k
+
+-- ---- no larger
+
+-- |low| + |high|
+abbrev pub size : Bounds → ℕ
+size b = natAbs (b .low) + natAbs (b .high)
+
+pub join-size : (o : Operator) (x y : Bounds) → size (joinBounds o x y) ≤ size x + size y
+unfolding joinBounds
+join-size Operator.sum x y = omega (arith, natAbs-add (x .low) (y .low), natAbs-add (x .high) (y .high))
+join-size Operator.greater x y = omega (arith, natAbs-max (x .low) (y .low), natAbs-max (x .high) (y .high))

@@ -1,13 +1,13 @@
 -- One point, whatever the kernel: its bounds enclose its value at every place (`point-encloses`), those of a span within a span are no looser
 -- (`point-within`), and those of one tick lie no farther apart than its tolerance (`point-narrow`).
-use mathlib.Core.Path.{_≡_, refl, sym, _∙_, ap, subst}
+use mathlib.Core.Path.{_≡_, refl, sym, subst}
 use mathlib.Core.Bool.{Bool, true, false, cond}
 use Prim.Native.Nat.{ℕ, _*_, _-_, _^_, _≤_, _<_}
-use native.Mathlib.Nat.{le-trans, le-of-eq, mul-pos, one-le-pow, pow-le-pow-left}
+use native.Mathlib.Nat.{mul-pos, one-le-pow, pow-le-pow-left}
 use native.Mathlib.Omega.{arith}
-use lib.IntN.{ℤ, pos, negℤ, natAbs, _+ℤ_, _-ℤ_, _*ℤ_}
-use lib.Signed.{ltZ, _≤ℤ_, _<ℤ_}
-use Rattle.exact.specs.Fraction.{Fraction, _over_, Proper, _≼_, plus, times}
+use lib.IntN.{ℤ, pos, natAbs, _-ℤ_, _*ℤ_}
+use lib.Signed.{ltZ, _≤ℤ_}
+use Rattle.exact.specs.Fraction.{Fraction, _over_, Proper, _≼_, times}
 use Rattle.exact.proofs.Ring.{_⊕_, _⊖_, ⊝_, _⊗_, _≔_, ring}
 use Rattle.exact.proofs.Order.{nn-pos, nn-mul, sub-nn, <ℤ-le, ≤ℤ-trans, ≤ℤ-of-eq, mul-mono-l, mul-anti-l, mul-cancel-le, pos-mono, pos-mono-lt, pos-reflect, le-pos-monus}
 use Rattle.exact.proofs.Absolute.{pos-natAbs-nn, pos-natAbs-neg}
@@ -20,13 +20,14 @@ use Rattle.field.specs.declared.Ray.{Ray}
 use Rattle.field.specs.declared.Span.{Span}
 use Rattle.field.specs.declared.Bounds.{Bounds}
 use Rattle.field.specs.Ray.{radius, extent, tick, Ordered, Place}
-use Rattle.field.specs.Kernel.{Kernel, reach, depth, pointAt}
-use Rattle.field.specs.Bounds.{raySquare, prepare, qlo, qhi, weighted, pointBounds, units, Encloses, Within, NoWider}
+use Rattle.field.specs.Kernel.{Kernel, uDen, uNum, pointAt}
+use Rattle.field.specs.Bounds.{raySquare, prepare, qlo, qhi, weighted, pointBounds, Encloses, Within, NoWider}
 use Rattle.field.specs.Tolerance.{pointTolerance}
 use Rattle.field.proofs.Kernels.{Lawful}
-use Rattle.field.proofs.Extremes.{Extremes, extremes}
-use Rattle.field.proofs.Between.{reach-pos, low-holds, high-holds, low-le, high-le}
-use Rattle.field.proofs.Width.{tick-ordered, tick-width}
+use Rattle.field.proofs.Extremes.{extremes}
+use Rattle.field.proofs.Between.{uDen-pos, low-holds, high-holds}
+use Rattle.field.proofs.Quotients.{qlo-le, qhi-le}
+use Rattle.field.proofs.Width.{tick-width}
 
 pub unit-pos : 1 ≤ 4294967296
 unit-pos = omega arith
@@ -81,7 +82,7 @@ weighted-width w x y = go (ltZ w (pos 0)) refl
     go false e =
         subst (λ (v : ℤ). (v *ℤ pos y -ℤ v *ℤ pos x) ≤ℤ (pos (natAbs w) *ℤ pos (y - x))) (pos-natAbs-nn (ltZ-false w (pos 0) e)) (apart (pos (natAbs w)) (nn-pos (natAbs w)))
 
--- ---- a q and its sizes: R is the reach, d the depth of a place
+-- ---- a q and its sizes: d/R is u at a place
 
 module _ (k : Kernel) (law : Lawful k) (q R d : ℕ) where
   c-pos : 0 < 65536 ^ k .power
@@ -117,11 +118,11 @@ module _ (k : Kernel) (law : Lawful k) (ray : Ray) (p : Node) (hr : 1 ≤ radius
   unfolding pointBounds pointAt prepare
   point-encloses {s} o x =
       let f = extremes ray p s hr o in
-      let R : ℕ = reach p (x .m) in
-      let d : ℕ = depth ray p (x .n) (x .m) in
+      let R : ℕ = uDen p (x .m) in
+      let d : ℕ = uNum ray p (x .n) (x .m) in
       let l : ℕ = qlo (raySquare ray) (prepare ray p) s in
       let h : ℕ = qhi (raySquare ray) (prepare ray p) s in
-      weighted-encloses (p .weight) (k .low l) (k .high h) (d ^ k .power) (R ^ k .power) (one-le-pow (k .power) R (reach-pos p hr (x .proper)))
+      weighted-encloses (p .weight) (k .low l) (k .high h) (d ^ k .power) (R ^ k .power) (one-le-pow (k .power) R (uDen-pos p hr (x .proper)))
       (low-size k law l R d (low-holds hr f x)) (high-size k law h R d (high-holds hr f x))
 
   pub point-within : (s s′ : Span) → qlo (raySquare ray) (prepare ray p) s ≤ qlo (raySquare ray) (prepare ray p) s′
@@ -141,10 +142,9 @@ module _ (k : Kernel) (law : Lawful k) (ray : Ray) (p : Node) (hr : 1 ≤ radius
   pub point-narrow : (t : ℕ) {T : ℕ} → 1 ≤ T → NoWider (on (tick t T)) (pointTolerance k ray T p)
   unfolding pointBounds pointTolerance prepare
   point-narrow t {T} hT =
-      let f = extremes ray p (tick t T) hr (tick-ordered t hT) in
       let l : ℕ = qlo (raySquare ray) (prepare ray p) (tick t T) in
       let h : ℕ = qhi (raySquare ray) (prepare ray p) (tick t T) in
-      let n = law .narrow l h (extent ray) (T * radius p) (low-le hr f) (high-le hr f) (tick-width ray p t T hr hT) in
+      let n = law .narrow l h (extent ray) (T * radius p) (qlo-le (raySquare ray) (prepare ray p) (tick t T)) (qhi-le (raySquare ray) (prepare ray p) (tick t T) (mul-pos hr hr) hT) (tick-width ray p t T hr hT) in
       record {
         proper = tolerance-proper hT;
         width = ≼-trans unit-pos (≼-over 4294967296 (weighted-width (p .weight) (k .low l) (k .high h))) (times-mono (natAbs (p .weight)) n);

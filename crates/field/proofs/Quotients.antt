@@ -18,9 +18,10 @@ use Rattle.exact.proofs.Rounding.{ceil-least}
 use Rattle.field.specs.declared.Prepared.{Prepared}
 use Rattle.field.specs.declared.Span.{Span}
 use Rattle.field.specs.declared.Bounds.{Bounds}
-use Rattle.field.specs.Kernel.{quartic}
+use Rattle.field.specs.Kernel.{Kernel}
 use Rattle.field.specs.Bounds.{distanceAt, footInside, footDistance, lowQ, highQ, scaledSquare, qlo, qhi, weighted, pointBounds}
-use Rattle.field.specs.Ranges.{InRange, Short, SmallBounds}
+use Rattle.field.proofs.Kernels.{Lawful}
+use Rattle.field.specs.Ranges.{PreparedRanges, SpanRanges, SmallBounds}
 
 -- ---- the divisors r² k, where k is the square of the ticks or a
 
@@ -71,14 +72,13 @@ pub qlo-le : (a : ℤ) (p : Prepared) (s : Span) → qlo a p s ≤ 65536
 unfolding qlo
 qlo-le a p s = low-q-le _ _
 
-pub qhi-le : {a : ℤ} {p : Prepared} {s : Span} → InRange a p → Short s → qhi a p s ≤ 65536
+pub qhi-le : (a : ℤ) (p : Prepared) (s : Span) → 0 < natAbs (p .square) → 0 < s .ticks → qhi a p s ≤ 65536
 unfolding qhi
-qhi-le {a} {p} {s} r h =
-    let square = positive-small (r .square-low) (r .square-high) .0 in
+qhi-le a p s square ticks =
     elim (cond-is (footInside a p s) (highQ (scaledSquare p (natAbs a)) (footDistance a p))
     (highQ (scaledSquare p (s .ticks * s .ticks)) (min (distanceAt a p (s .from) (s .ticks)) (distanceAt a p (s .to) (s .ticks))))) [
       | inl e ↦ rw (e .1) (high-q-le _ _ (mul-pos square (foot-positive a p s (e .0))))
-      | inr e ↦ rw (e .1) (high-q-le _ _ (mul-pos square (ticks-square (h .ticks-low) (h .ticks-high) .0)))
+      | inr e ↦ rw (e .1) (high-q-le _ _ (mul-pos square (mul-pos ticks ticks)))
     ]
 
 -- ---- the bounds
@@ -97,6 +97,8 @@ weighted-small {w} {x} {y} h hx hy =
     end : {u : ℕ} → u ≤ 2 ^ 32 → Small (2 ^ 44) (w *ℤ pos u)
     end {u} k = record { abs = le-trans (le-of-eq (natAbs-mul w (pos u))) (mul-le-mul (h .abs) k) }
 
-pub point-small : {a : ℤ} {p : Prepared} {s : Span} → InRange a p → Short s → SmallBounds (2 ^ 44) (pointBounds quartic a s p)
+pub point-small : (k : Kernel) → Lawful k → {a : ℤ} {p : Prepared} {s : Span} → PreparedRanges a p → SpanRanges s → SmallBounds (2 ^ 44) (pointBounds k a s p)
 unfolding pointBounds
-point-small {a} {p} {s} r h = weighted-small (r .weight-small) (square-le (qlo-le a p s)) (square-le (qhi-le r h))
+point-small k law {a} {p} {s} r h =
+    weighted-small (r .weight-small) (law .small (qlo-le a p s) .0)
+    (law .small (qhi-le a p s (positive-small (r .square-low) (r .square-high) .0) (h .ticks-low)) .1)

@@ -1,13 +1,12 @@
 -- How far a point's two q lie apart over a span from i/T to j/T: at most 65536 × 2 S (j − i)/(T r), and two for the rounding (`width`); over one
--- tick j − i is 1 (`tick-width`). The depth of a place changes no faster than the place moves (exact's Lipschitz).
+-- tick j − i is 1 (`tick-width`). Between two places u changes no faster than they are apart (exact's Lipschitz).
 use mathlib.Core.Path.{_≡_, sym, _∙_, ap, ap₂, subst}
-use Prim.Native.Nat.{ℕ, _+_, _-_, _*_, _/_, _≤_, _<_}
+use Prim.Native.Nat.{ℕ, _+_, _-_, _*_, _≤_, _<_}
 use native.Mathlib.Nat.{mul-one, mul-pos}
 use native.Mathlib.Omega.{arith}
 use lib.IntN.{ℤ, pos, negℤ, natAbs, _+ℤ_, _-ℤ_, _*ℤ_}
 use lib.Signed.{_≤ℤ_}
 use Rattle.exact.specs.Vector.{square3, size3}
-use Rattle.exact.specs.Rounding.{ceil}
 use Rattle.exact.proofs.Ring.{_⊕_, _⊖_, ⊝_, _⊗_, #, _≔_, ring}
 use Rattle.exact.proofs.Order.{nn-add, nn-mul, nn-pos, sub-nn, ≤ℤ-trans, ≤ℤ-of-eq, mul-cancel-le, pos-inj, pos-mono, pos-mono-lt, pos-reflect, pos-sub}
 use Rattle.exact.proofs.Absolute.{natAbs-mul, natAbs-bound}
@@ -18,11 +17,11 @@ use Rattle.exact.proofs.Lipschitz.{lipschitz}
 use Rattle.part.specs.declared.Node.{Node}
 use Rattle.field.specs.declared.Ray.{Ray}
 use Rattle.field.specs.declared.Span.{Span}
-use Rattle.field.specs.Ray.{radius, toStart, direction, extent, seen, squaredDistance, tick, Ordered, Place}
-use Rattle.field.specs.Kernel.{reach, depth}
+use Rattle.field.specs.Ray.{radius, toStart, direction, extent, fromCentre, squaredDistance, tick, Ordered, Place}
+use Rattle.field.specs.Kernel.{uDen, uNum}
 use Rattle.field.specs.Bounds.{raySquare, prepare, qlo, qhi}
 use Rattle.field.proofs.Distances.{squared-sum}
-use Rattle.field.proofs.Extremes.{Extremes, extremes}
+use Rattle.field.proofs.Extremes.{extremes}
 use Rattle.field.proofs.Between.{full-pos}
 
 -- ---- two places n/d and n′/d′ of one span
@@ -69,16 +68,16 @@ module _ (ray : Ray) (p : Node) where
   abbrev r : ℕ
   r = radius p
 
-  scaled : (n d k : ℕ) → pos (squaredDistance ray p n d * (k * k)) ≡ square3 (seen ray p n d .x *ℤ pos k) (seen ray p n d .y *ℤ pos k) (seen ray p n d .z *ℤ pos k)
+  scaled : (n d k : ℕ) → pos (squaredDistance ray p n d * (k * k)) ≡ square3 (fromCentre ray p n d .x *ℤ pos k) (fromCentre ray p n d .y *ℤ pos k) (fromCentre ray p n d .z *ℤ pos k)
   scaled n d k =
       ap (λ (z : ℤ). z *ℤ (pos k *ℤ pos k)) (squared-sum ray p n d)
       ∙ ring 4 (λ f g h k. (f ⊗ f ⊕ g ⊗ g ⊕ h ⊗ h) ⊗ (k ⊗ k) ≔ f ⊗ k ⊗ (f ⊗ k) ⊕ g ⊗ k ⊗ (g ⊗ k) ⊕ h ⊗ k ⊗ (h ⊗ k)) tt
-      (seen ray p n d .x) (seen ray p n d .y) (seen ray p n d .z) (pos k)
+      (fromCentre ray p n d .x) (fromCentre ray p n d .y) (fromCentre ray p n d .z) (pos k)
 
   lengths : (n d n′ d′ : ℕ) → pos (extent ray * gap n d n′ d′)
-      ≡ size3 (seen ray p n d .x *ℤ pos d′ -ℤ seen ray p n′ d′ .x *ℤ pos d)
-      (seen ray p n d .y *ℤ pos d′ -ℤ seen ray p n′ d′ .y *ℤ pos d)
-      (seen ray p n d .z *ℤ pos d′ -ℤ seen ray p n′ d′ .z *ℤ pos d)
+      ≡ size3 (fromCentre ray p n d .x *ℤ pos d′ -ℤ fromCentre ray p n′ d′ .x *ℤ pos d)
+      (fromCentre ray p n d .y *ℤ pos d′ -ℤ fromCentre ray p n′ d′ .y *ℤ pos d)
+      (fromCentre ray p n d .z *ℤ pos d′ -ℤ fromCentre ray p n′ d′ .z *ℤ pos d)
   lengths n d n′ d′ =
       let u = toStart ray p in
       let v = direction ray in
@@ -86,13 +85,13 @@ module _ (ray : Ray) (p : Node) where
       ∙ ap pos (ap₂ (λ (s t : ℕ). s + t)
       (ap₂ (λ (s t : ℕ). s + t) (sym (apart (u .x) (v .x) n d n′ d′)) (sym (apart (u .y) (v .y) n d n′ d′))) (sym (apart (u .z) (v .z) n d n′ d′)))
 
-  depths : (n d n′ d′ : ℕ) → depth ray p n d * (d′ * d′) ≤ depth ray p n′ d′ * (d * d) + 2 * (r * d * d′) * (extent ray * gap n d n′ d′)
-  depths n d n′ d′ =
-      subst (λ (k : ℕ). k ≤ depth ray p n′ d′ * (d * d) + 2 * R * (extent ray * gap n d n′ d′)) (sym (clear d d′ (squaredDistance ray p n d) one))
+  nums : (n d n′ d′ : ℕ) → uNum ray p n d * (d′ * d′) ≤ uNum ray p n′ d′ * (d * d) + 2 * (r * d * d′) * (extent ray * gap n d n′ d′)
+  nums n d n′ d′ =
+      subst (λ (k : ℕ). k ≤ uNum ray p n′ d′ * (d * d) + 2 * R * (extent ray * gap n d n′ d′)) (sym (clear d d′ (squaredDistance ray p n d) one))
       (subst (λ (k : ℕ). (R * R - squaredDistance ray p n d * (d′ * d′)) ≤ k + 2 * R * (extent ray * gap n d n′ d′)) (sym (clear d′ d (squaredDistance ray p n′ d′) two))
       (lipschitz R (squaredDistance ray p n d * (d′ * d′)) (squaredDistance ray p n′ d′ * (d * d)) (extent ray * gap n d n′ d′)
-      (seen ray p n d .x *ℤ pos d′) (seen ray p n d .y *ℤ pos d′) (seen ray p n d .z *ℤ pos d′)
-      (seen ray p n′ d′ .x *ℤ pos d) (seen ray p n′ d′ .y *ℤ pos d) (seen ray p n′ d′ .z *ℤ pos d)
+      (fromCentre ray p n d .x *ℤ pos d′) (fromCentre ray p n d .y *ℤ pos d′) (fromCentre ray p n d .z *ℤ pos d′)
+      (fromCentre ray p n′ d′ .x *ℤ pos d) (fromCentre ray p n′ d′ .y *ℤ pos d) (fromCentre ray p n′ d′ .z *ℤ pos d)
       (scaled n d d′) (scaled n′ d′ d) (lengths n d n′ d′)))
     where
       R : ℕ
@@ -107,7 +106,7 @@ module _ (ray : Ray) (p : Node) where
       clear : (d d′ D : ℕ) → r * r * (d * d) * (d′ * d′) ≡ R * R → (r * r * (d * d) - D) * (d′ * d′) ≡ R * R - D * (d′ * d′)
       clear d d′ D h = sub-mul (r * r * (d * d)) D (d′ * d′) ∙ ap (λ (k : ℕ). k - D * (d′ * d′)) h
 
--- ---- the arithmetic: X and Y are the depths at d and d′, h and l the two q
+-- ---- the arithmetic: X and Y are the numerators of u at d and d′, h and l the two q
 core : (h l T r d d′ X Y S W k : ℕ) → 0 < r → 0 < d → 0 < d′
     → X * (d′ * d′) ≤ Y * (d * d) + 2 * (r * d * d′) * (S * k)
     → T * k ≤ W * (d * d′)
@@ -140,14 +139,14 @@ module _ (ray : Ray) (p : Node) (s : Span) (hr : 1 ≤ radius p) (o : Ordered s)
       let f = extremes ray p s hr o in
       let g = f .greatest in
       let l = f .least in
-      let G : ℕ = reach p (g .m) in
-      let L : ℕ = reach p (l .m) in
-      core high low (s .ticks) (radius p) (g .m) (l .m) (depth ray p (g .n) (g .m)) (depth ray p (l .n) (l .m)) (extent ray) (s .to - s .from)
+      let G : ℕ = uDen p (g .m) in
+      let L : ℕ = uDen p (l .m) in
+      core high low (s .ticks) (radius p) (g .m) (l .m) (uNum ray p (g .n) (g .m)) (uNum ray p (l .n) (l .m)) (extent ray) (s .to - s .from)
       (gap (g .n) (g .m) (l .n) (l .m)) hr (g .proper) (l .proper)
-      (depths ray p (g .n) (g .m) (l .n) (l .m))
+      (nums ray p (g .n) (g .m) (l .n) (l .m))
       (gap-le o g l)
-      (subst (λ (k : ℕ). k * G ≤ 65536 * depth ray p (g .n) (g .m) + G) (sym (f .high-is)) (ceil-within (65536 * depth ray p (g .n) (g .m)) G))
-      (subst (λ (k : ℕ). 65536 * depth ray p (l .n) (l .m) ≤ k * L + L) (sym (f .low-is)) (floor-within (65536 * depth ray p (l .n) (l .m)) L (full-pos hr f l)))
+      (subst (λ (k : ℕ). k * G ≤ 65536 * uNum ray p (g .n) (g .m) + G) (sym (f .high-is)) (ceil-within (65536 * uNum ray p (g .n) (g .m)) G))
+      (subst (λ (k : ℕ). 65536 * uNum ray p (l .n) (l .m) ≤ k * L + L) (sym (f .low-is)) (floor-within (65536 * uNum ray p (l .n) (l .m)) L (full-pos hr f l)))
 
   pub width : (high - low) * (s .ticks * radius p) ≤ 131072 * (extent ray * (s .to - s .from)) + 2 * (s .ticks * radius p)
   width = less high low (s .ticks * radius p) _ apart-q

@@ -21,19 +21,19 @@ pub record Kernel : Type 0 where
 abbrev pub quartic : Kernel
 quartic = record { power = 2; low = λ q. q * q; high = λ q. q * q; slope = 4; slack = pos 1 over 16384 }
 
--- ---- u at the place n/m: depth/reach
+-- ---- u at the place n/m: uNum/uDen
 
 -- r² × m²
-abbrev pub reach : Node → ℕ → ℕ
-reach p m = radius p * radius p * (m * m)
+abbrev pub uDen : Node → ℕ → ℕ
+uDen p m = radius p * radius p * (m * m)
 
 -- (r² − d²) × m², and 0 where d ≥ r: the difference of natural numbers is 0 there
-abbrev pub depth : Ray → Node → ℕ → ℕ → ℕ
-depth ray p n m = reach p m - squaredDistance ray p n m
+abbrev pub uNum : Ray → Node → ℕ → ℕ → ℕ
+uNum ray p n m = uDen p m - squaredDistance ray p n m
 
 unfoldable pub u : Ray → Node → ℕ → ℕ → Fraction
-u ray p n m = pos (depth ray p n m) over reach p m
+u ray p n m = pos (uNum ray p n m) over uDen p m
 
 -- the point's value: w × u^power
 unfoldable pub pointAt : Kernel → Ray → ℕ → ℕ → Node → Fraction
-pointAt k ray n m p = times (p .weight) (pos (depth ray p n m ^ k .power) over (reach p m ^ k .power))
+pointAt k ray n m p = times (p .weight) (pos (uNum ray p n m ^ k .power) over (uDen p m ^ k .power))

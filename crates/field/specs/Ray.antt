@@ -49,13 +49,13 @@ direction ray = difference (ray .end) (ray .start)
 abbrev pub extent : Ray → ℕ
 extent ray = natAbs (direction ray .x) + natAbs (direction ray .y) + natAbs (direction ray .z)
 
--- the place n/m as seen from a point's centre, times m: m (A − c) + n (B − A)
-abbrev pub seen : Ray → Node → ℕ → ℕ → Offset
-seen ray p n m = combination (toStart ray p) m (direction ray) n
+-- the place n/m from a point's centre, times m: m (A − c) + n (B − A)
+abbrev pub fromCentre : Ray → Node → ℕ → ℕ → Offset
+fromCentre ray p n m = combination (toStart ray p) m (direction ray) n
 
 -- d² × m²
 unfoldable pub squaredDistance : Ray → Node → ℕ → ℕ → ℕ
-squaredDistance ray p n m = natAbs (inner (seen ray p n m) (seen ray p n m))
+squaredDistance ray p n m = natAbs (inner (fromCentre ray p n m) (fromCentre ray p n m))
 
 -- ---- spans (the document's stretches): from i/T to j/T of the way, T a number of ticks
 
@@ -82,8 +82,8 @@ pub record Inside (t s : Span) : Type 0 where
   pub to : t .to * s .ticks ≤ s .to * t .ticks
 
 -- the ray that stays at one place, and its start alone: the place 0/1
-abbrev pub still : Position → Ray
-still p = record { start = p; end = p }
+abbrev pub constantRay : Position → Ray
+constantRay p = record { start = p; end = p }
 
 abbrev pub atStart : Span
 atStart = record { from = 0; to = 0; ticks = 1 }
