@@ -24,13 +24,13 @@ pub radius-pos : {p : Node} → PointRanges p → 1 ≤ radius p
 radius-pos {p} h = pos-reflect (≤ℤ-trans (h .radius-low) (le-natAbs (p .radius)))
 
 module _ (ray : Ray) (p : Node) where
-  abbrev pub e : ℤ
+  abbrev e : ℤ
   e = prepare ray p .e
 
-  abbrev pub m : ℤ
+  abbrev m : ℤ
   m = prepare ray p .m
 
-  abbrev pub a : ℤ
+  abbrev a : ℤ
   a = raySquare ray
 
   -- |m (A − c) + n (B − A)|²

@@ -1,9 +1,10 @@
 -- Theorem 2. A span within a span has no looser bounds, for a point (`point-nested`) and for every tree (`tree-nested`); so what decides a span
--- decides each span in it alike (`state-nested`). The two spans may count by different ticks.
+-- decides each span in it (`state-nested`) and each of its ticks (`tick-nested`) alike. The two spans may count by different ticks.
 use mathlib.Core.Path.{_≡_, sym}
 use mathlib.Core.List.{List}
-use Prim.Native.Nat.{ℕ, _*_, _≤_}
+use Prim.Native.Nat.{ℕ, _*_, _≤_, _<_}
 use native.Mathlib.Nat.{le-trans, le-of-eq, mul-le-mul-right, le-of-mul-le-mul-right}
+use native.Mathlib.Omega.{arith}
 use lib.IntN.{pos}
 use Rattle.exact.proofs.Ring.{_⊗_, _≔_, ring}
 use Rattle.exact.proofs.Order.{≤ℤ-trans, ≤ℤ-<ℤ-trans, pos-inj, pos-reflect}
@@ -13,7 +14,7 @@ use Rattle.part.specs.Accepted.{PointRanges, Tree}
 use Rattle.field.specs.declared.Ray.{Ray}
 use Rattle.field.specs.declared.Span.{Span}
 use Rattle.field.specs.declared.Bounds.{Bounds}
-use Rattle.field.specs.Ray.{radius, Ordered, Place, Inside}
+use Rattle.field.specs.Ray.{radius, tick, Ordered, Place, Inside}
 use Rattle.field.specs.Kernel.{Kernel, uDen, uNum, u}
 use Rattle.field.specs.Tree.{items}
 use Rattle.field.specs.Bounds.{raySquare, prepare, qlo, qhi, pointBounds, boundingOn, noBounds, treeBounds, Within, stateOf}
@@ -22,6 +23,7 @@ use Rattle.field.proofs.Distances.{radius-pos}
 use Rattle.field.proofs.Kernels.{Lawful}
 use Rattle.field.proofs.Extremes.{extremes}
 use Rattle.field.proofs.Between.{full-pos}
+use Rattle.field.proofs.Width.{tick-ordered}
 use Rattle.field.proofs.Points.{point-within}
 use Rattle.field.proofs.Operators.{join-within}
 use Rattle.field.proofs.States.{empty-high, inside-low, empty-state, inside-state}
@@ -110,3 +112,10 @@ state-nested k law ray ns tree {t} {s} ot os w iso =
       empty = λ e. empty-state iso b (≤ℤ-<ℤ-trans (n .high) (empty-high iso c e));
       inside = λ e. inside-state iso b (low-le-high k law ray ns tree ot) (≤ℤ-trans (inside-low iso c e) (n .low));
     }
+
+-- so does each of its ticks
+pub tick-nested : (k : Kernel) → Lawful k → (ray : Ray) (ns : List Node) → Tree ns → {s : Span} → Ordered s → (iso t : ℕ) → s .from ≤ t → t < s .to
+    → Decides iso (treeBounds k ray s ns) (treeBounds k ray (tick t (s .ticks)) ns)
+tick-nested k law ray ns tree {s} o iso t h g =
+    state-nested k law ray ns tree (tick-ordered t (o .ticks-low)) o
+    (record { from = mul-le-mul-right (s .ticks) h; to = mul-le-mul-right (s .ticks) (omega arith) }) iso

@@ -17,7 +17,7 @@ pub record Kernel : Type 0 where
   pub slope : ℕ
   pub slack : Fraction
 
--- degree 4
+-- degree 4: the sizes are q²
 abbrev pub quartic : Kernel
 quartic = record { power = 2; low = λ q. q * q; high = λ q. q * q; slope = 4; slack = pos 1 over 16384 }
 
