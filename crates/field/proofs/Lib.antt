@@ -12,6 +12,7 @@ pub mod States
 pub mod Nested
 pub mod Tolerance
 pub mod Sum
+pub mod Demanded
 pub mod Marks
 pub mod Cases
 pub mod Offsets

@@ -144,7 +144,9 @@ module _ (k : Kernel) (law : Lawful k) (ray : Ray) (p : Node) (hr : 1 ≤ radius
   point-narrow t {T} hT =
       let l : ℕ = qlo (raySquare ray) (prepare ray p) (tick t T) in
       let h : ℕ = qhi (raySquare ray) (prepare ray p) (tick t T) in
-      let n = law .narrow l h (extent ray) (T * radius p) (qlo-le (raySquare ray) (prepare ray p) (tick t T)) (qhi-le (raySquare ray) (prepare ray p) (tick t T) (mul-pos hr hr) hT) (tick-width ray p t T hr hT) in
+      let l-le = qlo-le (raySquare ray) (prepare ray p) (tick t T) in
+      let h-le = qhi-le (raySquare ray) (prepare ray p) (tick t T) (mul-pos hr hr) hT in
+      let n = law .narrow l h (extent ray) (T * radius p) l-le h-le (tick-width ray p t T hr hT) in
       record {
         proper = tolerance-proper hT;
         width = ≼-trans unit-pos (≼-over 4294967296 (weighted-width (p .weight) (k .low l) (k .high h))) (times-mono (natAbs (p .weight)) n);

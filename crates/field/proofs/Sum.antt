@@ -1,4 +1,4 @@
--- The fold in which every operator adds is the sum over the tree's points, as demand 3 says it: `tolerance-sum`.
+-- The fold in which every operator adds is the sum over the tree's points, as demand 3 says it: `tolerance-sum`, `demanded-sum`.
 use mathlib.Core.Path.{_≡_, sym, _∙_, ap}
 use mathlib.Core.List.{List, [], _∷_}
 use Prim.Native.Nat.{ℕ, _≤_}
@@ -12,7 +12,7 @@ use Rattle.part.specs.Accepted.{PointRanges, Tree}
 use Rattle.field.specs.declared.Ray.{Ray}
 use Rattle.field.specs.Kernel.{Kernel}
 use Rattle.field.specs.Tree.{Item, point, operator, items, joinTop, step, run, treeValue, Postfix}
-use Rattle.field.specs.Tolerance.{pointTolerance, adding, tolerance}
+use Rattle.field.specs.Tolerance.{pointTolerance, demandedOf, adding, tolerance, demanded}
 use Rattle.field.proofs.Tree.{join-length, run-one, tree-items}
 
 -- f added over the points
@@ -54,3 +54,7 @@ module _ (f : Node → Fraction) (Q : Node → Type 0) where
 pub tolerance-sum : (k : Kernel) (ray : Ray) (T : ℕ) (ns : List Node) → Tree ns → tolerance k ray T ns ≡ sumOver (pointTolerance k ray T) (items ns)
 unfolding tolerance
 tolerance-sum k ray T ns tree = fold-adds (pointTolerance k ray T) PointRanges (items ns) (pos 0 over 1) (tree-items ns tree)
+
+pub demanded-sum : (ray : Ray) (ns : List Node) → Tree ns → demanded ray ns ≡ sumOver (demandedOf ray) (items ns)
+unfolding demanded
+demanded-sum ray ns tree = fold-adds (demandedOf ray) PointRanges (items ns) (pos 0 over 1) (tree-items ns tree)

@@ -1,0 +1,42 @@
+-- The tolerance with demand 3's own figures: with degree 4 and 1,024 ticks, |w| × (4 S/(T r) + 1/16384) is |w| × (S/(256 r) + 1/16384), added
+-- over the tree's points (`tree-up-to`).
+use mathlib.Core.List.{List}
+use Prim.Native.Nat.{_≤_}
+use native.Mathlib.Omega.{arith}
+use lib.IntN.{pos, natAbs}
+use Rattle.exact.specs.Fraction.{Fraction, _over_, Proper, _≼_, plus}
+use Rattle.exact.proofs.Ring.{_⊕_, _⊗_, #}
+use Rattle.exact.proofs.Order.{nn-pos}
+use Rattle.exact.proofs.Certificates.{_≦_by_, le}
+use Rattle.exact.proofs.Fractions.{plus-proper, plus-mono}
+use Rattle.part.specs.declared.Node.{Node}
+use Rattle.part.specs.Accepted.{PointRanges, Tree}
+use Rattle.field.specs.declared.Ray.{Ray}
+use Rattle.field.specs.Ray.{radius, extent}
+use Rattle.field.specs.Kernel.{quartic}
+use Rattle.field.specs.Tree.{items}
+use Rattle.field.specs.Tolerance.{pointTolerance, demandedOf, adding, tolerance, demanded}
+use Rattle.field.proofs.Tree.{value-related, tree-items}
+use Rattle.field.proofs.Distances.{radius-pos}
+
+-- at most
+pub record UpTo (x y : Fraction) : Type 0 where
+  pub proper : Proper y
+  pub up-to : x ≼ y
+
+point-up-to : (ray : Ray) (p : Node) → 1 ≤ radius p → UpTo (pointTolerance quartic ray 1024 p) (demandedOf ray p)
+unfolding pointTolerance demandedOf plus
+point-up-to ray p h = record {
+  proper = omega arith;
+  up-to = record {
+    cross = le 3 (λ v S r. v ⊗ (# 4 ⊗ S ⊗ # 16384 ⊕ # 1 ⊗ (# 1024 ⊗ r)) ⊗ (# 256 ⊗ r ⊗ # 16384) ≦ v ⊗ (S ⊗ # 16384 ⊕ # 1 ⊗ (# 256 ⊗ r)) ⊗ (# 1024 ⊗ r ⊗ # 16384) by # 0) tt
+        (pos (natAbs (p .weight))) (pos (extent ray)) (pos (radius p)) (nn-pos 0);
+  };
+}
+
+pub tree-up-to : (ray : Ray) (ns : List Node) → Tree ns → UpTo (tolerance quartic ray 1024 ns) (demanded ray ns)
+unfolding tolerance demanded
+tree-up-to ray ns tree =
+    value-related (adding (pointTolerance quartic ray 1024)) (adding (demandedOf ray)) UpTo PointRanges (λ p h. point-up-to ray p (radius-pos h))
+    (λ o a b c d h k. record { proper = plus-proper c d (h .proper) (k .proper); up-to = plus-mono (h .up-to) (k .up-to) })
+    (items ns) (pos 0 over 1) (pos 0 over 1) (tree-items ns tree)
