@@ -1,29 +1,11 @@
 //! The part lister of the crates, run as a program, against the reference's
 //! reader: the check of a file, and of an accepted one every node.
 
+mod common;
+
+use common::printed;
 use reference::generate::{self, mutate, random_bytes, random_records, Shape, SplitMix64};
 use reference::part::{read, FileBuilder, Kind, Node};
-use std::io::Write;
-use std::path::PathBuf;
-use std::process::{Command, Stdio};
-
-/// What the part lister prints for `file`.
-fn listed(file: &[u8]) -> String {
-    let program = PathBuf::from(env!("CARGO_MANIFEST_DIR")).join("../target/bin/partlist");
-    let mut child = Command::new(&program)
-        .stdin(Stdio::piped())
-        .stdout(Stdio::piped())
-        .spawn()
-        .expect("target/bin/partlist is built by: rt check partlist");
-    let mut stdin = child.stdin.take().expect("piped");
-    // The program reads no more than 65,537 bytes, so a longer file may find the pipe closed.
-    let sent = stdin.write_all(file);
-    assert!(sent.is_ok() || file.len() > 65_537);
-    drop(stdin);
-    let output = child.wait_with_output().expect("ends");
-    assert!(output.status.success());
-    String::from_utf8(output.stdout).expect("text")
-}
 
 /// What it should print.
 fn expected(file: &[u8]) -> String {
@@ -47,7 +29,7 @@ fn line(node: &Node) -> String {
 }
 
 fn compare(file: &[u8]) -> bool {
-    let text = listed(file);
+    let text = printed("partlist", file, 65_537);
     assert_eq!(text, expected(file), "{file:?}");
     text.starts_with("nodes ")
 }

@@ -54,7 +54,7 @@ fn u32_at(file: &[u8], at: usize) -> usize
     u16_at(file, at) + 65536 * u16_at(file, at + 2)
 }
 
-fn i16_at(file: &[u8], at: usize) -> i32
+pub fn i16_at(file: &[u8], at: usize) -> i32
     requires { ⌜ at + 2 ≤ length (now file) ⌝ }
     ensures { λ r. ⌜ r ≡ i16 (now (file .entry)) at ⌝ }
 {

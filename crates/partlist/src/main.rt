@@ -1,41 +1,28 @@
 // The part lister: reads a part file from standard input and prints what its check answers: "refused" and the number, or the
 // node count, the iso-value and each node's six numbers (kind, r, x, y, z, w) in file order.
 
-use io::print_decimal;
 use io::read_full;
-use io::write_all;
+use listing::print_number;
+use listing::print_signed;
 use part::Checked;
 use part::load;
 ghost use Prim.Native.Nat.{_+_, _*_, _≤_};
 
-// A number, with a word before it and a byte after it.
-fn print_number(word: &[u8], n: u64, after: u8) {
-    write_all(1, word);
-    print_decimal(1, n);
-    let end = [after];
-    write_all(1, &end[..]);
-}
-
-// A signed number, and the byte after it.
-fn print_signed(z: i32, after: u8) {
-    let wide = z as i64;
-    if wide < 0 {
-        print_number(b"-", (0 - wide) as u64, after);
-    } else {
-        print_number(b"", wide as u64, after);
-    }
+// A 32-bit number, and the byte after it.
+fn print_narrow(z: i32, after: u8) {
+    print_signed(b"", z as i64, after);
 }
 
 // The six numbers from a place on, in one line.
 fn print_node(numbers: &[i32; 3066], at: usize)
     requires { ⌜ at + 6 ≤ 3066 ⌝ }
 {
-    print_signed(numbers[at], b' ');
-    print_signed(numbers[at + 1], b' ');
-    print_signed(numbers[at + 2], b' ');
-    print_signed(numbers[at + 3], b' ');
-    print_signed(numbers[at + 4], b' ');
-    print_signed(numbers[at + 5], b'\n');
+    print_narrow(numbers[at], b' ');
+    print_narrow(numbers[at + 1], b' ');
+    print_narrow(numbers[at + 2], b' ');
+    print_narrow(numbers[at + 3], b' ');
+    print_narrow(numbers[at + 4], b' ');
+    print_narrow(numbers[at + 5], b'\n');
 }
 
 // A line for each of n nodes.
