@@ -1,12 +1,13 @@
 -- The tolerance with demand 3's own figures: with degree 4 and 1,024 ticks, |w| × (4 S/(T r) + 1/16384) is |w| × (S/(256 r) + 1/16384), added
 -- over the tree's points (`tree-up-to`).
 use mathlib.Core.List.{List}
-use Prim.Native.Nat.{_≤_}
+use Prim.Native.Nat.{_*_, _≤_}
 use native.Mathlib.Omega.{arith}
+use lib.Dec.{lit≤}
 use lib.IntN.{pos, natAbs}
 use Rattle.exact.specs.Fraction.{Fraction, _over_, Proper, _≼_, plus}
-use Rattle.exact.proofs.Ring.{_⊕_, _⊗_, #}
-use Rattle.exact.proofs.Order.{nn-pos}
+use Rattle.exact.proofs.Ring.{_⊕_, _⊖_, _⊗_, #}
+use Rattle.exact.proofs.Order.{nn-mul, nn-pos, sub-nn, pos-mono}
 use Rattle.exact.proofs.Certificates.{_≦_by_, le}
 use Rattle.exact.proofs.Fractions.{plus-proper, plus-mono}
 use Rattle.part.specs.declared.Node.{Node}
@@ -29,8 +30,10 @@ unfolding pointTolerance demandedOf plus
 point-up-to ray p h = record {
   proper = omega arith;
   up-to = record {
-    cross = le 3 (λ v S r. v ⊗ (# 4 ⊗ S ⊗ # 16384 ⊕ # 1 ⊗ (# 1024 ⊗ r)) ⊗ (# 256 ⊗ r ⊗ # 16384) ≦ v ⊗ (S ⊗ # 16384 ⊕ # 1 ⊗ (# 256 ⊗ r)) ⊗ (# 1024 ⊗ r ⊗ # 16384) by # 0) tt
-        (pos (natAbs (p .weight))) (pos (extent ray)) (pos (radius p)) (nn-pos 0);
+    cross = le 4 (λ v S r c. v ⊗ (c ⊗ S ⊗ # 16384 ⊕ # 1 ⊗ (# 1024 ⊗ r)) ⊗ (# 256 ⊗ r ⊗ # 16384) ≦ v ⊗ (S ⊗ # 16384 ⊕ # 1 ⊗ (# 256 ⊗ r)) ⊗ (# 1024 ⊗ r ⊗ # 16384)
+        by v ⊗ S ⊗ r ⊗ # 68719476736 ⊗ (# 4 ⊖ c)) tt
+        (pos (natAbs (p .weight))) (pos (extent ray)) (pos (radius p)) (pos (quartic .slope))
+        (nn-mul (nn-pos (natAbs (p .weight) * extent ray * radius p * 68719476736)) (sub-nn (pos-mono {a = quartic .slope} {b = 4} (lit≤ tt))));
   };
 }
 

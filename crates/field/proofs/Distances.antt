@@ -1,5 +1,5 @@
 -- The numbers e, m and a of a ray and a point, from the coordinates: the squared distance at a place is a sum of three squares, and so is the
--- foot's, so neither is negative (`real`). `distance-is ray p n m : distanceAt (raySquare ray) (prepare ray p) n m ≡ squaredDistance ray p n m`.
+-- foot's, so neither is negative (`nonneg`). `distance-is ray p n m : distanceAt (raySquare ray) (prepare ray p) n m ≡ squaredDistance ray p n m`.
 use mathlib.Core.Path.{_≡_, sym, _∙_, ap, subst}
 use Prim.Native.Nat.{ℕ, _≤_}
 use lib.IntN.{ℤ, pos, natAbs, _-ℤ_, _*ℤ_}
@@ -41,9 +41,9 @@ module _ (ray : Ray) (p : Node) where
       let v = direction ray in
       dist-squares (u .x) (u .y) (u .z) (v .x) (v .y) (v .z) (pos n) (pos d)
 
-  pub real : NonNegative e m a
+  pub nonneg : NonNegative e m a
   unfolding prepare raySquare
-  real =
+  nonneg =
       let u = toStart ray p in
       let v = direction ray in
       record {
@@ -66,4 +66,4 @@ module _ (ray : Ray) (p : Node) where
 
   pub foot-is : pos (footDistance a (prepare ray p)) ≡ e *ℤ a -ℤ m *ℤ m
   unfolding footDistance
-  foot-is = pos-natAbs-nn (real .foot-nn)
+  foot-is = pos-natAbs-nn (nonneg .foot-nn)

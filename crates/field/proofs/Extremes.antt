@@ -17,7 +17,7 @@ use Rattle.field.specs.declared.Span.{Span}
 use Rattle.field.specs.Ray.{radius, squaredDistance, Ordered, Place}
 use Rattle.field.specs.Kernel.{uDen, uNum, u}
 use Rattle.field.specs.Bounds.{raySquare, prepare, footInside, footDistance, lowQ, highQ, qlo, qhi}
-use Rattle.field.proofs.Distances.{real, distance-is, squared-is, foot-is}
+use Rattle.field.proofs.Distances.{nonneg, distance-is, squared-is, foot-is}
 use Rattle.field.proofs.Nearest.{sq, Farthest, Nearest, farthest, nearest}
 
 -- u at a place of a span
@@ -46,7 +46,7 @@ module _ (ray : Ray) (p : Node) (s : Span) (hr : 1 ≤ radius p) (o : Ordered s)
   N = footDistance (raySquare ray) (prepare ray p)
 
   A-is : pos A ≡ raySquare ray
-  A-is = pos-natAbs-nn (real ray p .a-nn)
+  A-is = pos-natAbs-nn (nonneg ray p .a-nn)
 
   D-is : (n d : ℕ) → pos (D n d) ≡ dist (prepare ray p .e) (prepare ray p .m) (pos A) (pos n) (pos d)
   D-is n d = squared-is ray p n d ∙ ap (λ (z : ℤ). dist (prepare ray p .e) (prepare ray p .m) z (pos n) (pos d)) (sym A-is)

@@ -1,4 +1,4 @@
--- The exact field (document 01, "The field"): the tree's value at a place n/m of a ray, without rounding and without bounds.
+-- The exact field (document 01): "The exact field at a place is the tree's value there, without rounding and without bounds."
 use mathlib.Core.List.{List}
 use Prim.Native.Nat.{ℕ}
 use lib.IntN.{pos}
@@ -16,5 +16,6 @@ joinFractions Operator.greater x y = greater x y
 abbrev pub exactly : Kernel → Ray → ℕ → ℕ → Algebra Node Fraction
 exactly k ray n m = record { value = pointAt k ray n m; join = joinFractions }
 
+-- at the place n/m of a ray
 unfoldable pub fieldAt : Kernel → Ray → ℕ → ℕ → List Node → Fraction
 fieldAt k ray n m ns = treeValue (exactly k ray n m) (pos 0 over 1) (items ns)

@@ -1,4 +1,4 @@
--- The kernel (document 01, "The field"): a point of weight w gives w × u², where u = 1 − d²/r² if d < r and 0 otherwise.
+-- The kernel (document 01, "The field"): "a point of weight w gives w × u², where u = 1 − d²/r² if d < r and 0 otherwise".
 -- The power of u, and what is rounded or tolerated on account of it, is a parameter: document 01's kernel is `quartic`.
 use Prim.Native.Nat.{ℕ, _*_, _-_, _^_}
 use lib.IntN.{pos}
@@ -8,7 +8,7 @@ use Rattle.field.specs.declared.Ray.{Ray}
 use Rattle.field.specs.Ray.{radius, squaredDistance}
 
 pub record Kernel : Type 0 where
-  -- u to this power
+  -- of u
   pub power : ℕ
   -- 2³² × (q/65536)^power, rounded down and up
   pub low : ℕ → ℕ
@@ -17,7 +17,7 @@ pub record Kernel : Type 0 where
   pub slope : ℕ
   pub slack : Fraction
 
--- degree 4: the sizes are q²
+-- degree 4, "n = 4": u², and the sizes are q²
 abbrev pub quartic : Kernel
 quartic = record { power = 2; low = λ q. q * q; high = λ q. q * q; slope = 4; slack = pos 1 over 16384 }
 
@@ -31,9 +31,10 @@ uDen p m = radius p * radius p * (m * m)
 abbrev pub uNum : Ray → Node → ℕ → ℕ → ℕ
 uNum ray p n m = uDen p m - squaredDistance ray p n m
 
+-- "u = 1 − d²/r² if d < r and 0 otherwise"
 unfoldable pub u : Ray → Node → ℕ → ℕ → Fraction
 u ray p n m = pos (uNum ray p n m) over uDen p m
 
--- the point's value: w × u^power
+-- "a point of weight w gives w × u²": w × u^power
 unfoldable pub pointAt : Kernel → Ray → ℕ → ℕ → Node → Fraction
 pointAt k ray n m p = times (p .weight) (pos (uNum ray p n m ^ k .power) over (uDen p m ^ k .power))

@@ -12,13 +12,13 @@ use Rattle.field.specs.Bounds.{treeBounds, stateOf}
 
 pub record SoundMark (iso state : ℕ) (field tolerance : Fraction) : Type 0 where
   pub proper : Proper field × Proper tolerance
-  -- empty: the field is below the iso-value
+  -- "If the tick is marked empty, the exact field there is below the iso-value."
   pub empty : state ≡ 0 → field ≺ pos iso over 1
-  -- inside: it is at or above it
+  -- "If it is marked inside, the exact field is at or above the iso-value."
   pub inside : state ≡ 2 → pos iso over 1 ≼ field
-  -- crossing: it differs from it by at most the tolerance
+  -- "If it is marked crossing, the exact field differs from the iso-value by at most" the tolerance
   pub crossing : state ≡ 1 → apart field (pos iso) ≼ tolerance
 
--- the state of tick t judged alone
+-- the state of tick t "judged alone"
 unfoldable pub tickState : Kernel → ℕ → Ray → List Node → ℕ → ℕ → ℕ
 tickState k iso ray ns t T = stateOf iso (treeBounds k ray (tick t T) ns)

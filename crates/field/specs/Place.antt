@@ -1,4 +1,4 @@
--- The bounds at one whole-step place (document 01, "Calls"): questions 1 to 12, then the bounds of the tree at that place.
+-- "Bounds at one whole-step place" (document 01, "Calls"): questions 1 to 12, then the bounds of the tree there.
 use mathlib.Core.List.{List, [], _∷_, _++_}
 use Prim.Native.Nat.{ℕ}
 use Rattle.part.specs.Questions.{Question, firstNo}

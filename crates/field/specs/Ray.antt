@@ -1,5 +1,5 @@
 -- Rays, spans of a ray and the places on it (document 01, "The field"). Coordinates are whole steps.
--- A place is n/m of the way from end A to end B; what is said of it is said of whole numbers, multiplied by m or by m².
+-- "A fractional place of the ray is n/m of the way from A to B"; what is said of it is said of whole numbers, multiplied by m or by m².
 use Prim.Native.Nat.{ℕ, _+_, _*_, _≤_}
 use lib.IntN.{ℤ, pos, natAbs, _+ℤ_, _-ℤ_, _*ℤ_}
 use Rattle.exact.specs.Vector.{dot3}
@@ -15,7 +15,7 @@ use Rattle.field.specs.declared.Span.{Span}
 abbrev pub difference : Position → Position → Offset
 difference p q = record { x = p .x -ℤ q .x; y = p .y -ℤ q .y; z = p .z -ℤ q .z }
 
--- the inner product
+-- the inner product, "of A−c and B−A"
 abbrev pub inner : Offset → Offset → ℤ
 inner u v = dot3 (u .x) (u .y) (u .z) (v .x) (v .y) (v .z)
 
@@ -45,7 +45,7 @@ toStart ray p = difference (ray .start) (centre p)
 abbrev pub direction : Ray → Offset
 direction ray = difference (ray .end) (ray .start)
 
--- S: |dx| + |dy| + |dz|
+-- "S is |dx| + |dy| + |dz| from A to B."
 abbrev pub extent : Ray → ℕ
 extent ray = natAbs (direction ray .x) + natAbs (direction ray .y) + natAbs (direction ray .z)
 
@@ -53,13 +53,13 @@ extent ray = natAbs (direction ray .x) + natAbs (direction ray .y) + natAbs (dir
 abbrev pub fromCentre : Ray → Node → ℕ → ℕ → Offset
 fromCentre ray p n m = combination (toStart ray p) m (direction ray) n
 
--- d² × m²
+-- d² × m²: the squared distance of the place n/m from the centre
 unfoldable pub squaredDistance : Ray → Node → ℕ → ℕ → ℕ
 squaredDistance ray p n m = natAbs (inner (fromCentre ray p n m) (fromCentre ray p n m))
 
--- ---- spans (the document's stretches): from i/T to j/T of the way, T a number of ticks
+-- ---- spans (the document's stretches of ray): from i/T to j/T of the way, T being the number of ticks
 
--- tick t of a ray cut into T
+-- "Tick t is the closed stretch from t/1024 to (t+1)/1024 of the way", of T ticks
 abbrev pub tick : ℕ → ℕ → Span
 tick t T = record { from = t; to = t + 1; ticks = T }
 
@@ -68,7 +68,7 @@ pub record Ordered (s : Span) : Type 0 where
   pub ticks-low : 1 ≤ s .ticks
   pub order : s .from ≤ s .to
 
--- a place n/m that the span holds: i × m ≤ T × n ≤ j × m
+-- a place n/m that a span holds: i × m ≤ T × n ≤ j × m; "tick t holds it if t × m ≤ 1,024 × n ≤ (t+1) × m"
 pub record Place (s : Span) : Type 0 where
   pub n : ℕ
   pub m : ℕ
@@ -76,12 +76,12 @@ pub record Place (s : Span) : Type 0 where
   pub after : s .from * m ≤ s .ticks * n
   pub before : s .ticks * n ≤ s .to * m
 
--- the span t lies within the span s; the two may count by different ticks
+-- "a smaller stretch": the span t lies within the span s; the two may count by different ticks
 pub record Inside (t s : Span) : Type 0 where
   pub from : s .from * t .ticks ≤ t .from * s .ticks
   pub to : t .to * s .ticks ≤ s .to * t .ticks
 
--- the ray that stays at one place, and its start alone: the place 0/1
+-- "one whole-step place": the ray that stays there, and its start alone, the place 0/1
 abbrev pub constantRay : Position → Ray
 constantRay p = record { start = p; end = p }
 

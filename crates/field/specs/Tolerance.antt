@@ -1,5 +1,5 @@
--- How far the exact field may be from the iso-value in a crossing tick (demand 3): the size of the weight times (4 S/(T r) + 1/16384), added over
--- the tree's points. With T = 1,024 the first term is S/(256 r).
+-- How far the exact field may be from the iso-value in a crossing tick (demand 3): "the sum, over the tree's points, of the size of the weight times
+-- (S/(256 r) + 1/16384)"; with T ticks the first term is 4 S/(T r).
 use mathlib.Core.List.{List}
 use Prim.Native.Nat.{ℕ, _*_}
 use lib.IntN.{pos, natAbs}
@@ -13,7 +13,7 @@ use Rattle.field.specs.Tree.{Algebra, items, treeValue}
 unfoldable pub pointTolerance : Kernel → Ray → ℕ → Node → Fraction
 pointTolerance k ray T p = times (pos (natAbs (p .weight))) (plus (pos (k .slope * extent ray) over (T * radius p)) (k .slack))
 
--- demand 3's own figures: |w| × (S/(256 r) + 1/16384)
+-- with demand 3's own figures, of 1,024 ticks
 unfoldable pub demandedOf : Ray → Node → Fraction
 demandedOf ray p = times (pos (natAbs (p .weight))) (plus (pos (extent ray) over (256 * radius p)) (pos 1 over 16384))
 
