@@ -1,12 +1,11 @@
--- The starred places, as rows of a table that one theorem covers (document 01, "Rays and places tried"): a file, a place, and what is answered
--- (`bounded`). Where the two bounds are one number, it is 2³² times the exact field (`exact-K`).
+-- Places tried, as rows of a table that one theorem covers (document 01, "Rays and places tried"): a file, a place, and what is answered. First the
+-- five starred places, then the starred coordinate.
 use mathlib.Core.Path.{_≡_, refl}
 use mathlib.Core.List.{List, [], _∷_, _++_, map}
 use Prim.Native.Nat.{ℕ}
-use lib.IntN.{ℤ, pos, negℤ, _*ℤ_}
+use lib.IntN.{ℤ, pos, negℤ}
 use Rattle.exact.specs.Extrema.{maxℤ}
 use Rattle.exact.specs.Rounding.{ceil}
-use Rattle.exact.specs.Fraction.{Fraction, plus, greater}
 use Rattle.part.specs.Bytes.{u16, u32, i16, hasBytes, zeros}
 use Rattle.part.specs.Questions.{firstNo}
 use Rattle.part.specs.Nodes.{isPoint, kindKnown, coordinate, inRange, forPoint, forOperator, heldAfter, recordQuestions, recordsQuestions}
@@ -14,9 +13,6 @@ use Rattle.part.specs.File.{iso, version, distance, marked, trailerQuestions, s
 use Rattle.field.specs.declared.Position.{Position}
 use Rattle.field.specs.declared.BoundsAnswer.{BoundsAnswer}
 use Rattle.field.specs.declared.BoundsAnswer.the-variants.{Refused, Bounded}
-use Rattle.field.specs.Ray.{constantRay, squaredDistance}
-use Rattle.field.specs.Kernel.{quartic, pointAt}
-use Rattle.field.specs.Field.{joinFractions, fieldAt}
 use Rattle.field.specs.Tree.{operatorOf, itemOf, items, joinTop, step, run, treeValue}
 use Rattle.field.specs.Bounds.{raySquare, prepare, distanceAt, footInside, footDistance, lowQ, highQ, qlo, qhi, weighted, pointBounds, joinBounds, treeBounds}
 use Rattle.field.specs.Loading.{positionInRange}
@@ -48,7 +44,7 @@ rows =
     -- r 3, w 1 and w −1
     ∷ (onePoint 3 0 1 0, at (pos 1), both (pos 3393528516) (pos 3393645025))
     ∷ (onePoint 3 0 0xff 0xff, at (pos 1), both (negℤ (pos 3393645025)) (negℤ (pos 3393528516)))
-    -- coordinates 2,047 and 2,048; a bad mark is asked before them
+    -- "Coordinate 2,048: 12; 2,047 passes." A bad mark is asked first.
     ∷ (fileK, at (pos 2047), both (pos 0) (pos 0))
     ∷ (fileK, at (pos 2048), Refused 12)
     ∷ (fileK ++ 0 ∷ [], at (pos 2048), Refused 2)
@@ -57,14 +53,3 @@ rows =
 pub bounded : map (λ r. placeBounds (r .0) (r .1)) rows ≡ map (λ r. r .2) rows
 unfolding rows u16 u32 i16 hasBytes zeros firstNo isPoint kindKnown coordinate inRange forPoint forOperator heldAfter recordQuestions recordsQuestions iso version distance marked trailerQuestions start count nodeAt recordAt recordsFrom records nodesFrom nodes fileQuestions ceil maxℤ operatorOf itemOf items joinTop step run treeValue raySquare prepare distanceAt footInside footDistance lowQ highQ qlo qhi weighted pointBounds joinBounds treeBounds positionInRange placeQuestions placeAnswer placeBounds
 bounded = refl
-
--- file K at x: 2³² × the exact field, both sides times the denominator
-unfoldable pub fieldsK : List (ℤ × ℤ)
-fieldsK = (pos 0, pos 17179869184) ∷ (pos 512, pos 0) ∷ (pos 362, pos 4296802500) ∷ []
-
-abbrev fieldK : ℤ → Fraction
-fieldK x = fieldAt quartic (constantRay (at x)) 0 1 (nodes fileK)
-
-pub exact-K : map (λ r. fieldK (r .0) .num *ℤ pos 4294967296) fieldsK ≡ map (λ r. r .1 *ℤ pos (fieldK (r .0) .den)) fieldsK
-unfolding fieldsK u16 u32 i16 hasBytes zeros isPoint distance start count nodeAt recordAt recordsFrom records nodesFrom nodes operatorOf itemOf items joinTop step run treeValue squaredDistance pointAt joinFractions fieldAt plus greater
-exact-K = refl

@@ -16,7 +16,7 @@ use Rattle.field.specs.Field.{exactly, fieldAt}
 use Rattle.field.specs.Bounds.{boundingOn, noBounds, treeBounds, Encloses}
 use Rattle.field.proofs.Tree.{value-related, tree-items}
 use Rattle.field.proofs.Distances.{radius-pos}
-use Rattle.field.proofs.Kernels.{Lawful}
+use Rattle.field.specs.Lawful.{Lawful}
 use Rattle.field.proofs.Nearest.{first}
 use Rattle.field.proofs.Points.{unit-pos, point-encloses}
 use Rattle.field.proofs.Operators.{join-encloses}

@@ -2,12 +2,11 @@
 -- times them, rounded down and up: `extremes ray p s hr o : Extremes ray p s`. The ray's ends may coincide.
 use mathlib.Core.Path.{_≡_, sym, _∙_, ap, ap₂}
 use mathlib.Core.Bool.{cond}
-use Prim.Native.Nat.{ℕ, _*_, _/_, _≤_, min, max}
+use Prim.Native.Nat.{ℕ, _*_, _≤_, min, max}
 use native.Mathlib.Nat.{mul-pos, mul-le-mul-left, mul-left-comm}
 use lib.IntN.{ℤ, pos, natAbs, _-ℤ_, _*ℤ_}
 use Rattle.exact.specs.Distance.{dist}
-use Rattle.exact.specs.Rounding.{ceil}
-use Rattle.exact.specs.Fraction.{Fraction, _≼_}
+use Rattle.exact.specs.Fraction.{_≼_}
 use Rattle.exact.proofs.Order.{pos-mono}
 use Rattle.exact.proofs.Absolute.{pos-natAbs-nn}
 use Rattle.exact.proofs.Naturals.{clamp}
@@ -15,22 +14,11 @@ use Rattle.part.specs.declared.Node.{Node}
 use Rattle.field.specs.declared.Ray.{Ray}
 use Rattle.field.specs.declared.Span.{Span}
 use Rattle.field.specs.Ray.{radius, squaredDistance, Ordered, Place}
-use Rattle.field.specs.Kernel.{uDen, uNum, u}
+use Rattle.field.specs.Kernel.{uNum, u}
 use Rattle.field.specs.Bounds.{raySquare, prepare, footInside, footDistance, lowQ, highQ, qlo, qhi}
+use Rattle.field.specs.Extremes.{uAt, Extremes}
 use Rattle.field.proofs.Distances.{nonneg, distance-is, squared-is, foot-is}
 use Rattle.field.proofs.Nearest.{sq, Farthest, Nearest, farthest, nearest}
-
--- u at a place of a span
-abbrev pub uAt : Ray → Node → {s : Span} → Place s → Fraction
-uAt ray p x = u ray p (x .n) (x .m)
-
-pub record Extremes (ray : Ray) (p : Node) (s : Span) : Type 0 where
-  pub least : Place s
-  pub greatest : Place s
-  pub is-least : (x : Place s) → uAt ray p least ≼ uAt ray p x
-  pub is-greatest : (x : Place s) → uAt ray p x ≼ uAt ray p greatest
-  pub low-is : qlo (raySquare ray) (prepare ray p) s ≡ 65536 * uNum ray p (least .n) (least .m) / uDen p (least .m)
-  pub high-is : qhi (raySquare ray) (prepare ray p) s ≡ ceil (65536 * uNum ray p (greatest .n) (greatest .m)) (uDen p (greatest .m))
 
 module _ (ray : Ray) (p : Node) (s : Span) (hr : 1 ≤ radius p) (o : Ordered s) where
   abbrev R : ℕ
@@ -60,10 +48,10 @@ module _ (ray : Ray) (p : Node) (s : Span) (hr : 1 ≤ radius p) (o : Ordered s)
   near : Nearest (prepare ray p) A N D s
   near = nearest (prepare ray p) A N D D-is N-is s o
 
-  -- no farther, no less deep
-  deeper : (x y : Place s) → D (x .n) (x .m) * sq y ≤ D (y .n) (y .m) * sq x → uAt ray p y ≼ uAt ray p x
+  -- no farther, no less a u
+  u-le : (x y : Place s) → D (x .n) (x .m) * sq y ≤ D (y .n) (y .m) * sq x → uAt ray p y ≼ uAt ray p x
   unfolding u
-  deeper x y h =
+  u-le x y h =
       record { cross = pos-mono (scale (uNum ray p (y .n) (y .m)) (sq x) (uNum ray p (x .n) (x .m)) (sq y) (clamp R (sq y) (sq x) (D (x .n) (x .m)) (D (y .n) (y .m)) h)) }
     where
       scale : (a t b t′ : ℕ) → a * t ≤ b * t′ → a * (R * t) ≤ b * (R * t′)
@@ -86,8 +74,8 @@ module _ (ray : Ray) (p : Node) (s : Span) (hr : 1 ≤ radius p) (o : Ordered s)
   extremes = record {
     least = far .place;
     greatest = near .place;
-    is-least = λ x. deeper x (far .place) (far .is x);
-    is-greatest = λ x. deeper (near .place) x (near .is x);
+    is-least = λ x. u-le x (far .place) (far .is x);
+    is-greatest = λ x. u-le (near .place) x (near .is x);
     low-is = low-q ∙ far .q-is R;
     high-is = high-q ∙ near .q-is R (mul-pos hr hr);
   }

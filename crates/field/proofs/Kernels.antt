@@ -1,33 +1,17 @@
--- What the proofs ask of a kernel (`Lawful`), and that document 01's kernel has it (`quartic-lawful`). All else holds of every lawful kernel.
+-- Document 01's kernel is lawful: `quartic-lawful`. This is all that theorems 1 to 5 need to know of its degree.
 use mathlib.Core.Path.{_≡_, sym, ap, subst}
 use mathlib.Core.Logic.{inl, inr}
-use Prim.Native.Nat.{ℕ, _+_, _*_, _-_, _^_, _≤_}
+use Prim.Native.Nat.{ℕ, _+_, _*_, _-_, _≤_}
 use native.Mathlib.Nat.{le-of-eq, mul-le-mul, mul-le-mul-right}
 use native.Mathlib.Omega.{arith}
 use lib.IntN.{pos}
-use lib.Signed.{_≤ℤ_}
-use Rattle.exact.specs.Fraction.{_over_, Proper, _≼_, plus}
+use Rattle.exact.specs.Fraction.{plus}
 use Rattle.exact.proofs.Ring.{_⊕_, _⊖_, _⊗_, #, _≔_, ring}
 use Rattle.exact.proofs.Order.{nn-add, nn-mul, nn-pos, sub-nn, pos-mono, pos-reflect, pos-inj}
 use Rattle.exact.proofs.Certificates.{_≦_by_, le}
 use Rattle.exact.proofs.Naturals.{≤-total, pow-two}
-use Rattle.field.specs.Kernel.{Kernel, quartic}
-use Rattle.field.specs.Bounds.{units}
-
-pub record Lawful (k : Kernel) : Type 0 where
-  -- the two sizes are 2³² × (q/65536)^power, rounded down and up
-  pub down : (q : ℕ) → k .low q * 65536 ^ k .power ≤ q ^ k .power * 4294967296
-  pub up : (q : ℕ) → q ^ k .power * 4294967296 ≤ k .high q * 65536 ^ k .power
-  -- and at most 2³² where q is at most 65536
-  pub small : {q : ℕ} → q ≤ 65536 → (k .low q ≤ 2 ^ 32) × (k .high q ≤ 2 ^ 32)
-  -- more q, no smaller a size
-  pub low-rises : {q q′ : ℕ} → q ≤ q′ → k .low q ≤ k .low q′
-  pub high-rises : {q q′ : ℕ} → q ≤ q′ → k .high q ≤ k .high q′
-  -- q as close as those of one tick (`tick-width`; t is T r) give sizes within the tolerance
-  pub slack-proper : Proper (k .slack)
-  pub slack-nn : pos 0 ≤ℤ k .slack .num
-  pub narrow : (qlo qhi S t : ℕ) → qlo ≤ 65536 → qhi ≤ 65536 → (qhi - qlo) * t ≤ 131072 * S + 2 * t
-      → units (pos (k .high qhi - k .low qlo)) ≼ plus (pos (k .slope * S) over t) (k .slack)
+use Rattle.field.specs.Lawful.{Lawful}
+use Rattle.field.specs.Kernel.{quartic}
 
 -- h² − l² ≤ 2 · 65536 · (h − l)
 squares : (l h : ℕ) → h ≤ 65536 → h * h ≤ l * l + 131072 * (h - l)

@@ -19,5 +19,5 @@ pub mod Offsets
 pub mod Lists
 pub mod Quotients
 pub mod Stack
-pub mod Ready
+pub mod Loading
 pub mod Places

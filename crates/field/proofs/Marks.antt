@@ -14,7 +14,8 @@ use Rattle.field.specs.Field.{fieldAt}
 use Rattle.field.specs.Bounds.{treeBounds}
 use Rattle.field.specs.Tolerance.{tolerance, demanded}
 use Rattle.field.specs.Marks.{SoundMark, tickState}
-use Rattle.field.proofs.Kernels.{Lawful, quartic-lawful}
+use Rattle.field.specs.Lawful.{Lawful}
+use Rattle.field.proofs.Kernels.{quartic-lawful}
 use Rattle.field.proofs.Width.{tick-ordered}
 use Rattle.field.proofs.States.{state-sound}
 use Rattle.field.proofs.Demanded.{tree-up-to}

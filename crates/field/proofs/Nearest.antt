@@ -4,7 +4,7 @@
 use mathlib.Core.Path.{_≡_, refl, sym, _∙_, ap, ap₂, subst}
 use mathlib.Core.Logic.{_⊎_, inl, inr}
 use mathlib.Core.Bool.{Bool, true, false, cond, _&&_}
-use Prim.Native.Nat.{ℕ, zero, suc, _-_, _*_, _/_, _≤_, _<_, min, max}
+use Prim.Native.Nat.{ℕ, _-_, _*_, _/_, _≤_, _<_, min, max}
 use native.Mathlib.Nat.{le-trans, le-of-eq, le-antisymm, mul-comm, mul-pos, mul-le-mul-left, mul-le-mul-right}
 use native.Mathlib.Omega.{arith}
 use lib.IntN.{ℤ, pos, negℤ, natAbs, _-ℤ_, _*ℤ_}
@@ -12,7 +12,7 @@ use lib.Signed.{ltZ, _≤ℤ_, _<ℤ_, clashℤ}
 use Rattle.exact.specs.Distance.{dist}
 use Rattle.exact.specs.Rounding.{ceil}
 use Rattle.exact.proofs.Ring.{_⊕_, _⊖_, ⊝_, _⊗_, _≔_, ring}
-use Rattle.exact.proofs.Order.{nn-pos, sub-nn, <ℤ-le, <ℤ-trans, le-or-lt, pos-inj, pos-reflect, pos-reflect-lt}
+use Rattle.exact.proofs.Order.{nn-pos, sub-nn, <ℤ-le, <ℤ-trans, le-or-lt, pos-inj, pos-reflect}
 use Rattle.exact.proofs.Absolute.{pos-natAbs-neg}
 use Rattle.exact.proofs.Tests.{ltZ-true, ltZ-false}
 use Rattle.exact.proofs.Certificates.{_≦_by_, le, nn}
@@ -23,6 +23,7 @@ use Rattle.field.specs.declared.Span.{Span}
 use Rattle.field.specs.Ray.{Ordered, Place}
 use Rattle.field.specs.declared.Prepared.{Prepared}
 use Rattle.field.specs.Bounds.{footInside, lowQ, highQ}
+use Rattle.field.proofs.Quotients.{span-positive}
 
 -- ---- the ends as places
 
@@ -184,11 +185,7 @@ module _ (p : Prepared) (A N : ℕ) (D : ℕ → ℕ → ℕ) (D-is : (n d : ℕ
   ]
 
   a-pos : (pos i *ℤ pos A) <ℤ foot → foot <ℤ (pos j *ℤ pos A) → 0 < A
-  a-pos h k = fac A (pos-reflect-lt (<ℤ-trans h k))
-    where
-      fac : (A : ℕ) → i * A < j * A → 0 < A
-      fac zero h = omega arith
-      fac (suc A) h = omega arith
+  a-pos h k = span-positive i j (pos A) (<ℤ-trans h k)
 
   foot-place : (pos i *ℤ pos A) <ℤ foot → foot <ℤ (pos j *ℤ pos A) → Place s
   foot-place h k = record {

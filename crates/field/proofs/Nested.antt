@@ -13,16 +13,15 @@ use Rattle.part.specs.declared.Node.{Node}
 use Rattle.part.specs.Accepted.{PointRanges, Tree}
 use Rattle.field.specs.declared.Ray.{Ray}
 use Rattle.field.specs.declared.Span.{Span}
-use Rattle.field.specs.declared.Bounds.{Bounds}
 use Rattle.field.specs.Ray.{radius, tick, Ordered, Place, Inside}
 use Rattle.field.specs.Kernel.{Kernel, uDen, uNum, u}
 use Rattle.field.specs.Tree.{items}
-use Rattle.field.specs.Bounds.{raySquare, prepare, qlo, qhi, pointBounds, boundingOn, noBounds, treeBounds, Within, stateOf}
+use Rattle.field.specs.Bounds.{raySquare, prepare, qlo, qhi, pointBounds, boundingOn, noBounds, treeBounds, Within, Decides}
 use Rattle.field.proofs.Tree.{value-related, tree-items}
 use Rattle.field.proofs.Distances.{radius-pos}
-use Rattle.field.proofs.Kernels.{Lawful}
+use Rattle.field.specs.Lawful.{Lawful}
 use Rattle.field.proofs.Extremes.{extremes}
-use Rattle.field.proofs.Between.{full-pos}
+use Rattle.field.proofs.Between.{den-pos}
 use Rattle.field.proofs.Width.{tick-ordered}
 use Rattle.field.proofs.Points.{point-within}
 use Rattle.field.proofs.Operators.{join-within}
@@ -69,7 +68,7 @@ module _ (ray : Ray) (p : Node) (hr : 1 ≤ radius p) {t s : Span} (ot : Ordered
       le-trans (le-of-eq (x .low-is))
       (le-trans
       (floor-mono 65536 (uNum ray p (x .least .n) (x .least .m)) (uDen p (x .least .m)) (uNum ray p (y .least .n) (y .least .m)) (uDen p (y .least .m))
-      (full-pos hr x (x .least)) (full-pos hr y (y .least)) (pos-reflect (x .is-least (widen (ot .ticks-low) w (y .least)) .cross)))
+      (den-pos hr x (x .least)) (den-pos hr y (y .least)) (pos-reflect (x .is-least (widen (ot .ticks-low) w (y .least)) .cross)))
       (le-of-eq (sym (y .low-is))))
 
   high-nested : qhi (raySquare ray) (prepare ray p) t ≤ qhi (raySquare ray) (prepare ray p) s
@@ -80,7 +79,7 @@ module _ (ray : Ray) (p : Node) (hr : 1 ≤ radius p) {t s : Span} (ot : Ordered
       le-trans (le-of-eq (y .high-is))
       (le-trans
       (ceil-mono 65536 (uNum ray p (y .greatest .n) (y .greatest .m)) (uDen p (y .greatest .m)) (uNum ray p (x .greatest .n) (x .greatest .m)) (uDen p (x .greatest .m))
-      (full-pos hr y (y .greatest)) (full-pos hr x (x .greatest)) (pos-reflect (x .is-greatest (widen (ot .ticks-low) w (y .greatest)) .cross)))
+      (den-pos hr y (y .greatest)) (den-pos hr x (x .greatest)) (pos-reflect (x .is-greatest (widen (ot .ticks-low) w (y .greatest)) .cross)))
       (le-of-eq (sym (x .high-is))))
 
   pub point-nested : (k : Kernel) → Lawful k → Within (pointBounds k (raySquare ray) t (prepare ray p)) (pointBounds k (raySquare ray) s (prepare ray p))
@@ -96,11 +95,6 @@ tree-nested k law ray ns tree {t} {s} ot os w =
     (λ p h. point-nested ray p (radius-pos h) ot os w k law) (λ o a b c d. join-within o a b c d) (items ns) noBounds noBounds (tree-items ns tree)
 
 -- ---- a decided span
-
--- what decides c decides b alike
-pub record Decides (iso : ℕ) (c b : Bounds) : Type 0 where
-  pub empty : stateOf iso c ≡ 0 → stateOf iso b ≡ 0
-  pub inside : stateOf iso c ≡ 2 → stateOf iso b ≡ 2
 
 pub state-nested : (k : Kernel) → Lawful k → (ray : Ray) (ns : List Node) → Tree ns → {t s : Span} → Ordered t → Ordered s → Inside t s → (iso : ℕ)
     → Decides iso (treeBounds k ray s ns) (treeBounds k ray t ns)

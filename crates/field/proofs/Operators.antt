@@ -7,7 +7,7 @@ use native.Mathlib.Omega.{arith}
 use lib.IntN.{ℤ, pos, natAbs, _+ℤ_, _-ℤ_}
 use lib.Signed.{_≤ℤ_}
 use Rattle.exact.specs.Extrema.{maxℤ}
-use Rattle.exact.specs.Fraction.{Fraction, Proper, _≼_, plus, greater}
+use Rattle.exact.specs.Fraction.{Fraction, _≼_, plus, greater}
 use Rattle.exact.proofs.Ring.{_⊕_, _⊖_, _≔_, ring}
 use Rattle.exact.proofs.Order.{≤ℤ-of-eq, add-mono, sub-mono}
 use Rattle.exact.proofs.Absolute.{natAbs-add}
@@ -16,18 +16,13 @@ use Rattle.exact.proofs.Fractions.{≼-trans, ≼-over, plus-proper, plus-mono,
 use Rattle.field.specs.declared.Bounds.{Bounds}
 use Rattle.field.specs.Tree.{Operator}
 use Rattle.field.specs.Field.{joinFractions}
-use Rattle.field.specs.Bounds.{joinBounds, units, Encloses, Within}
+use Rattle.field.specs.Bounds.{joinBounds, units, Encloses, Within, NoWider}
 use Rattle.field.proofs.Points.{unit-pos}
 
 -- ---- enclosing
 
-abbrev sumOf : Bounds → Bounds → Bounds
-sumOf a b = record { low = a .low +ℤ b .low; high = a .high +ℤ b .high }
-
-abbrev greaterOf : Bounds → Bounds → Bounds
-greaterOf a b = record { low = maxℤ (a .low) (b .low); high = maxℤ (a .high) (b .high) }
-
-sum-encloses : (a b : Bounds) (x y : Fraction) → Encloses a x → Encloses b y → Encloses (sumOf a b) (plus x y)
+sum-encloses : (a b : Bounds) (x y : Fraction) → Encloses a x → Encloses b y → Encloses (joinBounds Operator.sum a b) (plus x y)
+unfolding joinBounds
 sum-encloses a b x y h k = record {
   proper = plus-proper x y (h .proper) (k .proper);
   above = ≼-trans (plus-proper (units (a .low)) (units (b .low)) unit-pos unit-pos) (plus-over (a .low) (b .low) 4294967296 .0) (plus-mono (h .above) (k .above));
@@ -35,14 +30,15 @@ sum-encloses a b x y h k = record {
 }
 
 -- the greater is the one or the other, and no less than both
-greater-encloses : (a b : Bounds) (x y : Fraction) → Encloses a x → Encloses b y → Encloses (greaterOf a b) (greater x y)
+greater-encloses : (a b : Bounds) (x y : Fraction) → Encloses a x → Encloses b y → Encloses (joinBounds Operator.greater a b) (greater x y)
+unfolding joinBounds
 greater-encloses a b x y h k = elim (greater-is x y) [
-  | inl g ↦ subst (Encloses (greaterOf a b)) (sym (g .1)) (record {
+  | inl g ↦ subst (Encloses (joinBounds Operator.greater a b)) (sym (g .1)) (record {
     proper = k .proper;
     above = low y (≼-trans (h .proper) (h .above) (g .0)) (k .above);
     below = ≼-trans unit-pos (k .below) (≼-over 4294967296 (le-max-r (a .high) (b .high)));
   })
-  | inr g ↦ subst (Encloses (greaterOf a b)) (sym (g .1)) (record {
+  | inr g ↦ subst (Encloses (joinBounds Operator.greater a b)) (sym (g .1)) (record {
     proper = h .proper;
     above = low x (h .above) (≼-trans (k .proper) (k .above) (g .0));
     below = ≼-trans unit-pos (h .below) (≼-over 4294967296 (le-max-l (a .high) (b .high)));
@@ -71,9 +67,8 @@ join-within Operator.greater a b c d h k = record { low = max-mono (h .low) (k .
 
 -- b is no wider than y, which is not negative
 pub record Narrow (b : Bounds) (y : Fraction) : Type 0 where
-  pub proper : Proper y
+  pub no-wider : NoWider b y
   pub nonneg : pos 0 ≤ℤ y .num
-  pub wide : units (b .high -ℤ b .low) ≼ y
 
 abbrev width : Bounds → ℤ
 width b = b .high -ℤ b .low
@@ -81,29 +76,33 @@ width b = b .high -ℤ b .low
 -- no wider than the two operands together, than the first, than the second
 module _ (a b c : Bounds) (x y : Fraction) (h : Narrow a x) (k : Narrow b y) where
   narrow : units (width c) ≼ plus x y → Narrow c (plus x y)
-  narrow w = record { proper = plus-proper x y (h .proper) (k .proper); nonneg = plus-nn x y (h .nonneg) (k .nonneg); wide = w }
+  narrow w = record {
+    no-wider = record { proper = plus-proper x y (h .no-wider .proper) (k .no-wider .proper); width = w };
+    nonneg = plus-nn x y (h .nonneg) (k .nonneg);
+  }
 
   both : width c ≡ width a +ℤ width b → Narrow c (plus x y)
   both e =
       narrow (subst (λ (z : ℤ). units z ≼ plus x y) (sym e)
-      (≼-trans (plus-proper (units (width a)) (units (width b)) unit-pos unit-pos) (plus-over (width a) (width b) 4294967296 .0) (plus-mono (h .wide) (k .wide))))
+      (≼-trans (plus-proper (units (width a)) (units (width b)) unit-pos unit-pos) (plus-over (width a) (width b) 4294967296 .0) (plus-mono (h .no-wider .width) (k .no-wider .width))))
 
   first : width c ≤ℤ width a → Narrow c (plus x y)
-  first l = narrow (≼-trans (h .proper) (≼-trans unit-pos (≼-over 4294967296 l) (h .wide)) (plus-up x y (h .nonneg) (k .nonneg) .0))
+  first l = narrow (≼-trans (h .no-wider .proper) (≼-trans unit-pos (≼-over 4294967296 l) (h .no-wider .width)) (plus-up x y (h .nonneg) (k .nonneg) .0))
 
   second : width c ≤ℤ width b → Narrow c (plus x y)
-  second l = narrow (≼-trans (k .proper) (≼-trans unit-pos (≼-over 4294967296 l) (k .wide)) (plus-up x y (h .nonneg) (k .nonneg) .1))
+  second l = narrow (≼-trans (k .no-wider .proper) (≼-trans unit-pos (≼-over 4294967296 l) (k .no-wider .width)) (plus-up x y (h .nonneg) (k .nonneg) .1))
 
-greater-narrow : (a b : Bounds) (x y : Fraction) → Narrow a x → Narrow b y → Narrow (greaterOf a b) (plus x y)
+greater-narrow : (a b : Bounds) (x y : Fraction) → Narrow a x → Narrow b y → Narrow (joinBounds Operator.greater a b) (plus x y)
+unfolding joinBounds
 greater-narrow a b x y h k = elim (max-is (a .high) (b .high)) [
-  | inl e ↦ second a b (greaterOf a b) x y h k (sub-mono (≤ℤ-of-eq (e .1)) (le-max-r (a .low) (b .low)))
-  | inr e ↦ first a b (greaterOf a b) x y h k (sub-mono (≤ℤ-of-eq (e .1)) (le-max-l (a .low) (b .low)))
+  | inl e ↦ second a b (joinBounds Operator.greater a b) x y h k (sub-mono (≤ℤ-of-eq (e .1)) (le-max-r (a .low) (b .low)))
+  | inr e ↦ first a b (joinBounds Operator.greater a b) x y h k (sub-mono (≤ℤ-of-eq (e .1)) (le-max-l (a .low) (b .low)))
 ]
 
 pub join-narrow : (o : Operator) (a b : Bounds) (x y : Fraction) → Narrow a x → Narrow b y → Narrow (joinBounds o a b) (plus x y)
 unfolding joinBounds
 join-narrow Operator.sum a b x y h k =
-    both a b (sumOf a b) x y h k (ring 4 (λ l h m i. h ⊕ i ⊖ (l ⊕ m) ≔ h ⊖ l ⊕ (i ⊖ m)) tt (a .low) (a .high) (b .low) (b .high))
+    both a b (joinBounds Operator.sum a b) x y h k (ring 4 (λ l h m i. h ⊕ i ⊖ (l ⊕ m) ≔ h ⊖ l ⊕ (i ⊖ m)) tt (a .low) (a .high) (b .low) (b .high))
 join-narrow Operator.greater a b x y h k = greater-narrow a b x y h k
 
 -- ---- no larger

@@ -1,7 +1,7 @@
 -- One point, whatever the kernel: its bounds enclose its value at every place (`point-encloses`), those of a span within a span are no looser
 -- (`point-within`), and those of one tick lie no farther apart than its tolerance (`point-narrow`).
 use mathlib.Core.Path.{_≡_, refl, sym, subst}
-use mathlib.Core.Bool.{Bool, true, false, cond}
+use mathlib.Core.Bool.{Bool, true, false}
 use Prim.Native.Nat.{ℕ, _*_, _-_, _^_, _≤_, _<_}
 use native.Mathlib.Nat.{mul-pos, one-le-pow, pow-le-pow-left}
 use native.Mathlib.Omega.{arith}
@@ -23,7 +23,7 @@ use Rattle.field.specs.Ray.{radius, extent, tick, Ordered, Place}
 use Rattle.field.specs.Kernel.{Kernel, uDen, uNum, pointAt}
 use Rattle.field.specs.Bounds.{raySquare, prepare, qlo, qhi, weighted, pointBounds, Encloses, Within, NoWider}
 use Rattle.field.specs.Tolerance.{pointTolerance}
-use Rattle.field.proofs.Kernels.{Lawful}
+use Rattle.field.specs.Lawful.{Lawful}
 use Rattle.field.proofs.Extremes.{extremes}
 use Rattle.field.proofs.Between.{uDen-pos, low-holds, high-holds}
 use Rattle.field.proofs.Quotients.{qlo-le, qhi-le}
@@ -33,10 +33,6 @@ pub unit-pos : 1 ≤ 4294967296
 unit-pos = omega arith
 
 -- ---- a weight times two sizes
-
--- the two orders of the ends, by the sign of the weight
-abbrev ends : ℤ → ℕ → ℕ → Bool → Bounds
-ends w x y negative = cond negative (record { low = w *ℤ pos y; high = w *ℤ pos x }) (record { low = w *ℤ pos x; high = w *ℤ pos y })
 
 weighted-encloses : (w : ℤ) (a b x y : ℕ) → 1 ≤ y → a * y ≤ x * 4294967296 → x * 4294967296 ≤ b * y → Encloses (weighted w a b) (times w (pos x over y))
 unfolding weighted
@@ -48,25 +44,25 @@ weighted-encloses w a b x y p h k = go (ltZ w (pos 0)) refl
     cross : (n d n′ d′ : ℕ) → (w *ℤ pos (n * d)) ≤ℤ (w *ℤ pos (n′ * d′)) → (w *ℤ pos n *ℤ pos d) ≤ℤ (w *ℤ pos n′ *ℤ pos d′)
     cross n d n′ d′ h = ≤ℤ-trans (≤ℤ-of-eq (assoc n d)) (≤ℤ-trans h (≤ℤ-of-eq (sym (assoc n′ d′))))
 
-    go : (c : Bool) → ltZ w (pos 0) ≡ c → Encloses (ends w a b c) (times w (pos x over y))
-    go true e = let n = <ℤ-le (ltZ-true w (pos 0) e) in record {
+    go : (c : Bool) → ltZ w (pos 0) ≡ c → Encloses (weighted w a b) (times w (pos x over y))
+    go true e = let n = <ℤ-le (ltZ-true w (pos 0) e) in rw e (record {
       proper = p;
       above = record { cross = cross b y x 4294967296 (mul-anti-l n (pos-mono k)) };
       below = record { cross = cross x 4294967296 a y (mul-anti-l n (pos-mono h)) };
-    }
-    go false e = let n = ltZ-false w (pos 0) e in record {
+    })
+    go false e = let n = ltZ-false w (pos 0) e in rw e (record {
       proper = p;
       above = record { cross = cross a y x 4294967296 (mul-mono-l n (pos-mono h)) };
       below = record { cross = cross x 4294967296 b y (mul-mono-l n (pos-mono k)) };
-    }
+    })
 
 weighted-within : (w : ℤ) {x y x′ y′ : ℕ} → x ≤ x′ → y′ ≤ y → Within (weighted w x′ y′) (weighted w x y)
 unfolding weighted
 weighted-within w {x} {y} {x′} {y′} h k = go (ltZ w (pos 0)) refl
   where
-    go : (c : Bool) → ltZ w (pos 0) ≡ c → Within (ends w x′ y′ c) (ends w x y c)
-    go true e = let n = <ℤ-le (ltZ-true w (pos 0) e) in record { low = mul-anti-l n (pos-mono k); high = mul-anti-l n (pos-mono h) }
-    go false e = let n = ltZ-false w (pos 0) e in record { low = mul-mono-l n (pos-mono h); high = mul-mono-l n (pos-mono k) }
+    go : (c : Bool) → ltZ w (pos 0) ≡ c → Within (weighted w x′ y′) (weighted w x y)
+    go true e = let n = <ℤ-le (ltZ-true w (pos 0) e) in rw e (record { low = mul-anti-l n (pos-mono k); high = mul-anti-l n (pos-mono h) })
+    go false e = let n = ltZ-false w (pos 0) e in rw e (record { low = mul-mono-l n (pos-mono h); high = mul-mono-l n (pos-mono k) })
 
 weighted-width : (w : ℤ) (x y : ℕ) → (weighted w x y .high -ℤ weighted w x y .low) ≤ℤ (pos (natAbs w) *ℤ pos (y - x))
 unfolding weighted
@@ -75,12 +71,15 @@ weighted-width w x y = go (ltZ w (pos 0)) refl
     apart : (v : ℤ) → pos 0 ≤ℤ v → (v *ℤ pos y -ℤ v *ℤ pos x) ≤ℤ (v *ℤ pos (y - x))
     apart v h = ≤ℤ-trans (≤ℤ-of-eq (ring 3 (λ v x y. v ⊗ y ⊖ v ⊗ x ≔ v ⊗ (y ⊖ x)) tt v (pos x) (pos y))) (mul-mono-l h (le-pos-monus y x))
 
-    go : (c : Bool) → ltZ w (pos 0) ≡ c → (ends w x y c .high -ℤ ends w x y c .low) ≤ℤ (pos (natAbs w) *ℤ pos (y - x))
+    -- v is w without its sign
+    go : (c : Bool) → ltZ w (pos 0) ≡ c → (weighted w x y .high -ℤ weighted w x y .low) ≤ℤ (pos (natAbs w) *ℤ pos (y - x))
     go true e =
-        ≤ℤ-trans (≤ℤ-of-eq (ring 3 (λ w x y. w ⊗ x ⊖ w ⊗ y ≔ ⊝ w ⊗ y ⊖ ⊝ w ⊗ x) tt w (pos x) (pos y)))
-        (subst (λ (v : ℤ). (v *ℤ pos y -ℤ v *ℤ pos x) ≤ℤ (pos (natAbs w) *ℤ pos (y - x))) (pos-natAbs-neg (<ℤ-le (ltZ-true w (pos 0) e))) (apart (pos (natAbs w)) (nn-pos (natAbs w))))
+        rw e (≤ℤ-trans (≤ℤ-of-eq (ring 3 (λ w x y. w ⊗ x ⊖ w ⊗ y ≔ ⊝ w ⊗ y ⊖ ⊝ w ⊗ x) tt w (pos x) (pos y)))
+        (subst (λ (v : ℤ). (v *ℤ pos y -ℤ v *ℤ pos x) ≤ℤ (pos (natAbs w) *ℤ pos (y - x))) (pos-natAbs-neg (<ℤ-le (ltZ-true w (pos 0) e)))
+        (apart (pos (natAbs w)) (nn-pos (natAbs w)))))
     go false e =
-        subst (λ (v : ℤ). (v *ℤ pos y -ℤ v *ℤ pos x) ≤ℤ (pos (natAbs w) *ℤ pos (y - x))) (pos-natAbs-nn (ltZ-false w (pos 0) e)) (apart (pos (natAbs w)) (nn-pos (natAbs w)))
+        rw e (subst (λ (v : ℤ). (v *ℤ pos y -ℤ v *ℤ pos x) ≤ℤ (pos (natAbs w) *ℤ pos (y - x))) (pos-natAbs-nn (ltZ-false w (pos 0) e))
+        (apart (pos (natAbs w)) (nn-pos (natAbs w))))
 
 -- ---- a q and its sizes: d/R is u at a place
 

@@ -1,8 +1,8 @@
 -- The two quotients q of a point over a span: what is asked of their divisors, and that each is at most 65536.
 -- So the point's bounds are at most 2⁴⁴ in size: `point-small`.
-use mathlib.Core.Path.{_≡_, sym}
+use mathlib.Core.Path.{_≡_, refl, sym}
 use mathlib.Core.Logic.{inl, inr}
-use mathlib.Core.Bool.{true}
+use mathlib.Core.Bool.{Bool, true, false}
 use Prim.Native.Nat.{ℕ, zero, suc, _*_, _-_, _^_, _≤_, _<_, min}
 use native.Mathlib.Nat.{le-trans, le-of-eq, mul-le-mul, mul-pos, div-le-of-le-mul, sub-eq-zero-of-le, zero-div, mul-zero}
 use native.Mathlib.Omega.{arith}
@@ -17,10 +17,9 @@ use Rattle.exact.proofs.Tests.{both-true, cond-is, ltZ-true}
 use Rattle.exact.proofs.Rounding.{ceil-least}
 use Rattle.field.specs.declared.Prepared.{Prepared}
 use Rattle.field.specs.declared.Span.{Span}
-use Rattle.field.specs.declared.Bounds.{Bounds}
 use Rattle.field.specs.Kernel.{Kernel}
 use Rattle.field.specs.Bounds.{distanceAt, footInside, footDistance, lowQ, highQ, scaledSquare, qlo, qhi, weighted, pointBounds}
-use Rattle.field.proofs.Kernels.{Lawful}
+use Rattle.field.specs.Lawful.{Lawful}
 use Rattle.field.specs.Ranges.{PreparedRanges, SpanRanges, SmallBounds}
 
 -- ---- the divisors r² k, where k is the square of the ticks or a
@@ -30,7 +29,8 @@ positive-small {k} {z} l h =
     let e : pos (natAbs z) ≡ z = pos-natAbs-nn (≤ℤ-trans (nn-pos 1) l) in
     (pos-reflect (≤ℤ-trans l (≤ℤ-of-eq (sym e))), record { abs = pos-reflect (≤ℤ-trans (≤ℤ-of-eq e) h) })
 
-span-positive : (i j : ℕ) (a : ℤ) → (pos i *ℤ a) <ℤ (pos j *ℤ a) → 0 < natAbs a
+-- a is not 0 where i a < j a
+pub span-positive : (i j : ℕ) (a : ℤ) → (pos i *ℤ a) <ℤ (pos j *ℤ a) → 0 < natAbs a
 span-positive i j (pos zero) l = clashℤ l (≤ℤ-of-eq (ring 2 (λ i j. j ⊗ # 0 ≔ i ⊗ # 0) tt (pos i) (pos j)))
 span-positive i j (pos (suc n)) l = omega arith
 span-positive i j (negsuc n) l = omega arith
@@ -85,17 +85,14 @@ qhi-le a p s square ticks =
 
 weighted-small : {w : ℤ} {x y : ℕ} → Small 4096 w → x ≤ 2 ^ 32 → y ≤ 2 ^ 32 → SmallBounds (2 ^ 44) (weighted w x y)
 unfolding weighted
-weighted-small {w} {x} {y} h hx hy =
-    elim (cond-is (ltZ w (pos 0)) (ends y x) (ends x y)) [
-      | inl e ↦ rw (e .1) (record { low = end hy; high = end hx })
-      | inr e ↦ rw (e .1) (record { low = end hx; high = end hy })
-    ]
+weighted-small {w} {x} {y} h hx hy = go (ltZ w (pos 0)) refl
   where
-    ends : ℕ → ℕ → Bounds
-    ends u v = record { low = w *ℤ pos u; high = w *ℤ pos v }
-
     end : {u : ℕ} → u ≤ 2 ^ 32 → Small (2 ^ 44) (w *ℤ pos u)
     end {u} k = record { abs = le-trans (le-of-eq (natAbs-mul w (pos u))) (mul-le-mul (h .abs) k) }
+
+    go : (c : Bool) → ltZ w (pos 0) ≡ c → SmallBounds (2 ^ 44) (weighted w x y)
+    go true e = rw e (record { low = end hy; high = end hx })
+    go false e = rw e (record { low = end hx; high = end hy })
 
 pub point-small : (k : Kernel) → Lawful k → {a : ℤ} {p : Prepared} {s : Span} → PreparedRanges a p → SpanRanges s → SmallBounds (2 ^ 44) (pointBounds k a s p)
 unfolding pointBounds

@@ -12,14 +12,8 @@ use Rattle.part.specs.Accepted.{PointRanges, Tree}
 use Rattle.field.specs.declared.Ray.{Ray}
 use Rattle.field.specs.Kernel.{Kernel}
 use Rattle.field.specs.Tree.{Item, point, operator, items, joinTop, step, run, treeValue, Postfix}
-use Rattle.field.specs.Tolerance.{pointTolerance, demandedOf, adding, tolerance, demanded}
+use Rattle.field.specs.Tolerance.{pointTolerance, demandedOf, adding, tolerance, demanded, sumOver}
 use Rattle.field.proofs.Tree.{join-length, run-one, tree-items}
-
--- f added over the points
-unfoldable pub sumOver : (Node → Fraction) → List (Item Node) → Fraction
-sumOver f [] = pos 0 over 1
-sumOver f (point p ∷ later) = plus (f p) (sumOver f later)
-sumOver f (operator o ∷ later) = sumOver f later
 
 -- the held values added
 total : List Fraction → Fraction

@@ -22,7 +22,7 @@ use Rattle.field.specs.Kernel.{uDen, uNum}
 use Rattle.field.specs.Bounds.{raySquare, prepare, qlo, qhi}
 use Rattle.field.proofs.Distances.{squared-sum}
 use Rattle.field.proofs.Extremes.{extremes}
-use Rattle.field.proofs.Between.{full-pos}
+use Rattle.field.proofs.Between.{den-pos}
 
 -- ---- two places n/d and n′/d′ of one span
 
@@ -146,7 +146,7 @@ module _ (ray : Ray) (p : Node) (s : Span) (hr : 1 ≤ radius p) (o : Ordered s)
       (nums ray p (g .n) (g .m) (l .n) (l .m))
       (gap-le o g l)
       (subst (λ (k : ℕ). k * G ≤ 65536 * uNum ray p (g .n) (g .m) + G) (sym (f .high-is)) (ceil-within (65536 * uNum ray p (g .n) (g .m)) G))
-      (subst (λ (k : ℕ). 65536 * uNum ray p (l .n) (l .m) ≤ k * L + L) (sym (f .low-is)) (floor-within (65536 * uNum ray p (l .n) (l .m)) L (full-pos hr f l)))
+      (subst (λ (k : ℕ). 65536 * uNum ray p (l .n) (l .m) ≤ k * L + L) (sym (f .low-is)) (floor-within (65536 * uNum ray p (l .n) (l .m)) L (den-pos hr f l)))
 
   pub width : (high - low) * (s .ticks * radius p) ≤ 131072 * (extent ray * (s .to - s .from)) + 2 * (s .ticks * radius p)
   width = less high low (s .ticks * radius p) _ apart-q

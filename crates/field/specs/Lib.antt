@@ -3,6 +3,8 @@ pub mod Kernel
 pub mod Tree
 pub mod Field
 pub mod Bounds
+pub mod Extremes
+pub mod Lawful
 pub mod Tolerance
 pub mod Marks
 pub mod Ranges

@@ -76,7 +76,7 @@ pub record Place (s : Span) : Type 0 where
   pub after : s .from * m ≤ s .ticks * n
   pub before : s .ticks * n ≤ s .to * m
 
--- "a smaller stretch": the span t lies within the span s; the two may count by different ticks
+-- the span t lies within the span s, and may count by other ticks; "A smaller stretch has no looser bounds"
 pub record Inside (t s : Span) : Type 0 where
   pub from : s .from * t .ticks ≤ t .from * s .ticks
   pub to : t .to * s .ticks ≤ s .to * t .ticks

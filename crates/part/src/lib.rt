@@ -12,7 +12,7 @@ ghost use lib.ListN.{length};
 ghost use lib.Seq.{sets};
 ghost use Rattle.part.specs.Bytes.{u16, u32, i16, zeros};
 ghost use Rattle.part.specs.Questions.{firstNo};
-ghost use Rattle.part.specs.Nodes.{isPoint, inRange, heldAfter, recordQuestions, recordsQuestions, numbers};
+ghost use Rattle.part.specs.Nodes.{isPoint, coordinate, inRange, heldAfter, recordQuestions, recordsQuestions, numbers};
 ghost use Rattle.part.specs.Accepted.{Trailer, Ready};
 ghost use Rattle.part.specs.File.{iso, version, distance, marked, trailerQuestions, count, start, nodeAt, recordAt, recordsFrom, nodesFrom, fileQuestions, checkFile, loaded};
 
@@ -187,14 +187,21 @@ fn is_point(n: Node) -> bool
     n.kind == 1
 }
 
+// Is a coordinate -2047 to 2047?
+pub fn is_coordinate(z: i32) -> bool
+    ensures { λ r. ⌜ r ≡ coordinate z ⌝ }
+{
+    is_between_signed(-2047, 2047, z)
+}
+
 // Are a point's numbers in their ranges?
 fn in_range(n: Node) -> bool
     ensures { λ r. ⌜ r ≡ inRange n ⌝ }
 {
     let r = is_between_signed(1, 1024, n.radius);
-    let x = is_between_signed(-2047, 2047, n.x);
-    let y = is_between_signed(-2047, 2047, n.y);
-    let z = is_between_signed(-2047, 2047, n.z);
+    let x = is_coordinate(n.x);
+    let y = is_coordinate(n.y);
+    let z = is_coordinate(n.z);
     let w = is_between_signed(-4096, 4096, n.weight);
     both(both(both(both(r, x), y), z), w)
 }
