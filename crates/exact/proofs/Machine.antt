@@ -56,6 +56,10 @@ param h t = read (given h) t
 pub lit : {w : Width} (z : ℤ) → Holds w (natAbs z) z z
 lit z = given (record { abs = le-refl (natAbs z) })
 
+-- a number that fits, as it is read
+pub as-read : {w : Width} {z : ℤ} → SFits w z → Holds w (2 ^ hbits w) (back w z) z
+as-read f = record { is = toZ-ofZ f; size = fits-small f }
+
 -- a cast to another signed width keeps the value
 pub recast : {w w′ : Width} {k : ℕ} {y z : ℤ} → Holds w k y z → Holds w′ k y z
 recast h = record { is = h .is; size = h .size }

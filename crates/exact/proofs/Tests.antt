@@ -4,13 +4,14 @@
 use mathlib.Core.Path.{_≡_, refl, sym, ap, _∙_}
 use mathlib.Core.Logic.{_⊎_, inl, inr}
 use mathlib.Core.Bool.{Bool, true, false, cond, _&&_, and-true, false≢true}
-use Prim.Native.Nat.{ℕ, zero, suc, _≤_}
+use Prim.Native.Nat.{ℕ, zero, suc, _≤_, _<_}
 use borrow.Author.Tests.{leb-true, le-leb, eqb-true, eq-eqb}
 use lib.Dec.{T, leb, leb·zero, leb·suc-zero, leb·suc-suc}
 use lib.IntN.{ℤ, pos, negsuc, negℤ, natAbs}
 use lib.Signed.{leZ, ltZ, _≤ℤ_, _<ℤ_, leZ-yes, ltZ-yes, ltZ-no, clashℤ}
 use Rattle.exact.specs.Range.{between, betweenℤ, eqℤ, Small}
-use Rattle.exact.proofs.Order.{leZ-no}
+use Rattle.exact.proofs.Order.{≤ℤ-of-eq, ≤ℤ-trans, nn-pos, pos-reflect, leZ-no}
+use Rattle.exact.proofs.Absolute.{pos-natAbs-nn}
 
 -- ---- any test
 
@@ -103,3 +104,10 @@ within-small k z e = record { abs = leb-true (natAbs z) k (sym (within k z) ∙ 
 
 pub small-within : {k : ℕ} {z : ℤ} → Small k z → betweenℤ (negℤ (pos k)) (pos k) z ≡ true
 small-within {k} {z} h = within k z ∙ le-leb (natAbs z) k (h .abs)
+
+-- ---- from 1 to k
+
+pub positive-small : {k : ℕ} {z : ℤ} → pos 1 ≤ℤ z → z ≤ℤ pos k → (0 < natAbs z) × Small k z
+positive-small {k} {z} l h =
+    let e : pos (natAbs z) ≡ z = pos-natAbs-nn (≤ℤ-trans (nn-pos 1) l) in
+    (pos-reflect (≤ℤ-trans l (≤ℤ-of-eq (sym e))), record { abs = pos-reflect (≤ℤ-trans (≤ℤ-of-eq e) h) })

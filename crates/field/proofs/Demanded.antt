@@ -1,5 +1,5 @@
--- The tolerance with demand 3's own figures: with degree 4 and 1,024 ticks, |w| × (4 S/(T r) + 1/16384) is |w| × (S/(256 r) + 1/16384), added
--- over the tree's points (`tree-up-to`).
+-- The tolerance with degree 4 and 1,024 ticks, |w| × (4 S/(1024 r) + 1/16384), is at most demand 3's own, |w| × (S/(256 r) + 1/16384), added over
+-- the tree's points (`tree-up-to`).
 use mathlib.Core.List.{List}
 use Prim.Native.Nat.{_*_, _≤_}
 use native.Mathlib.Omega.{arith}

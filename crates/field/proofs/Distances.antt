@@ -5,8 +5,8 @@ use Prim.Native.Nat.{ℕ, _≤_}
 use lib.IntN.{ℤ, pos, natAbs, _-ℤ_, _*ℤ_}
 use lib.Signed.{_≤ℤ_}
 use Rattle.exact.specs.Distance.{dist}
-use Rattle.exact.proofs.Order.{≤ℤ-trans, pos-reflect}
-use Rattle.exact.proofs.Absolute.{le-natAbs, pos-natAbs-nn}
+use Rattle.exact.proofs.Tests.{positive-small}
+use Rattle.exact.proofs.Absolute.{pos-natAbs-nn}
 use Rattle.exact.proofs.Vector.{nn-square3}
 use Rattle.exact.proofs.Distance.{dist-squares, foot-squares}
 use Rattle.part.specs.declared.Node.{Node}
@@ -21,7 +21,7 @@ inner-nn : (u : Offset) → pos 0 ≤ℤ inner u u
 inner-nn u = nn-square3 (u .x) (u .y) (u .z)
 
 pub radius-pos : {p : Node} → PointRanges p → 1 ≤ radius p
-radius-pos {p} h = pos-reflect (≤ℤ-trans (h .radius-low) (le-natAbs (p .radius)))
+radius-pos h = positive-small (h .radius-low) (h .radius-high) .0
 
 module _ (ray : Ray) (p : Node) where
   abbrev e : ℤ

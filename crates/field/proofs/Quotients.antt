@@ -1,6 +1,6 @@
 -- The two quotients q of a point over a span: what is asked of their divisors, and that each is at most 65536.
 -- So the point's bounds are at most 2⁴⁴ in size: `point-small`.
-use mathlib.Core.Path.{_≡_, refl, sym}
+use mathlib.Core.Path.{_≡_, refl}
 use mathlib.Core.Logic.{inl, inr}
 use mathlib.Core.Bool.{Bool, true, false}
 use Prim.Native.Nat.{ℕ, zero, suc, _*_, _-_, _^_, _≤_, _<_, min}
@@ -8,12 +8,12 @@ use native.Mathlib.Nat.{le-trans, le-of-eq, mul-le-mul, mul-pos, div-le-of-le-mu
 use native.Mathlib.Omega.{arith}
 use lib.Dec.{lit≤}
 use lib.IntN.{ℤ, pos, negsuc, natAbs, negℤ, _*ℤ_}
-use lib.Signed.{ltZ, _≤ℤ_, _<ℤ_, clashℤ}
+use lib.Signed.{ltZ, _<ℤ_, clashℤ}
 use Rattle.exact.specs.Range.{Small}
 use Rattle.exact.proofs.Ring.{_⊗_, #, _≔_, ring}
-use Rattle.exact.proofs.Order.{≤ℤ-of-eq, ≤ℤ-trans, <ℤ-trans, nn-pos, pos-reflect}
-use Rattle.exact.proofs.Absolute.{pos-natAbs-nn, natAbs-mul}
-use Rattle.exact.proofs.Tests.{both-true, cond-is, ltZ-true}
+use Rattle.exact.proofs.Order.{≤ℤ-of-eq, <ℤ-trans}
+use Rattle.exact.proofs.Absolute.{natAbs-mul}
+use Rattle.exact.proofs.Tests.{both-true, cond-is, ltZ-true, positive-small}
 use Rattle.exact.proofs.Rounding.{ceil-least}
 use Rattle.field.specs.declared.Prepared.{Prepared}
 use Rattle.field.specs.declared.Span.{Span}
@@ -23,11 +23,6 @@ use Rattle.field.specs.Lawful.{Lawful}
 use Rattle.field.specs.Ranges.{PreparedRanges, SpanRanges, SmallBounds}
 
 -- ---- the divisors r² k, where k is the square of the ticks or a
-
-pub positive-small : {k : ℕ} {z : ℤ} → pos 1 ≤ℤ z → z ≤ℤ pos k → (0 < natAbs z) × Small k z
-positive-small {k} {z} l h =
-    let e : pos (natAbs z) ≡ z = pos-natAbs-nn (≤ℤ-trans (nn-pos 1) l) in
-    (pos-reflect (≤ℤ-trans l (≤ℤ-of-eq (sym e))), record { abs = pos-reflect (≤ℤ-trans (≤ℤ-of-eq e) h) })
 
 -- a is not 0 where i a < j a
 pub span-positive : (i j : ℕ) (a : ℤ) → (pos i *ℤ a) <ℤ (pos j *ℤ a) → 0 < natAbs a

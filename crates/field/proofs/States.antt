@@ -3,7 +3,7 @@
 use mathlib.Core.Path.{_≡_, refl, sym, _∙_, subst}
 use mathlib.Core.Logic.{_⊎_, inl, inr}
 use mathlib.Core.Bool.{Bool, true, false, cond}
-use Prim.Native.Nat.{ℕ, _*_}
+use Prim.Native.Nat.{ℕ}
 use native.Mathlib.Omega.{arith}
 use lib.IntN.{ℤ, pos, natAbs, _-ℤ_, _*ℤ_}
 use lib.Signed.{leZ, ltZ, _≤ℤ_, _<ℤ_, clashℤ}
@@ -14,13 +14,9 @@ use Rattle.exact.proofs.Absolute.{natAbs-is}
 use Rattle.exact.proofs.Certificates.{_≦_by_, le, nn}
 use Rattle.exact.proofs.Tests.{leZ-true, leZ-false, ltZ-true, ltZ-false, le-leZ, lt-ltZ, le-ltZ}
 use Rattle.field.specs.declared.Bounds.{Bounds}
-use Rattle.field.specs.Bounds.{Encloses, NoWider, stateOf}
+use Rattle.field.specs.Bounds.{Encloses, NoWider, level, stateOf}
 use Rattle.field.specs.Marks.{SoundMark}
 use Rattle.field.proofs.Points.{unit-pos}
-
--- iso × 2³²
-abbrev pub level : ℕ → ℤ
-level iso = pos (iso * 4294967296)
 
 abbrev pick : Bool → Bool → ℕ
 pick below above = cond below 0 (cond above 2 1)

@@ -11,7 +11,7 @@ use mir.Facts.{toZ-ofZ}
 use borrow.Author.Needs.{needs}
 use Rattle.exact.proofs.Order.{nn-pos, lt-suc-le, sub-nn}
 use Rattle.exact.proofs.Tests.{ltZ-true, ltZ-false}
-use Rattle.exact.proofs.Machine.{Holds, back, fits-small, fits-u, fit, read, sized, lit, lt-of, to-u, known-to-u, _⊟_}
+use Rattle.exact.proofs.Machine.{Holds, back, as-read, fits-u, fit, read, sized, lit, lt-of, to-u, known-to-u, _⊟_}
 use Rattle.listing.proofs.print_signed.Statement.{statement}
 use Rattle.listing.proofs.print_signed.Tie as tie
 
@@ -19,9 +19,6 @@ next-abs : (z : ℤ) → z <ℤ pos 0 → mag z < 2 ^ 63 → natAbs (sucℤ z) �
 next-abs (pos n) h f = clashℤ h (nn-pos n)
 next-abs (negsuc zero) h f = omega arith
 next-abs (negsuc (suc n)) h f = omega arith
-
-local : {z : ℤ} → SFits w64 z → Holds w64 (2 ^ 63) (back w64 z) z
-local f = record { is = toZ-ofZ f; size = fits-small f }
 
 next : {z : ℤ} → SFits w64 z → z <ℤ pos 0 → Holds w64 (2 ^ 63 - 1) (back w64 z +ℤ pos 1) (z +ℤ pos 1)
 next {z} f h = record { is = ap (λ (x : ℤ). x +ℤ pos 1) (toZ-ofZ f); size = record { abs = rw (+ℤ-one z) (next-abs z h (f .sfits)) } }
@@ -33,7 +30,7 @@ fits : (c : tie.Then1) → SFits w64 (c .before .before .before .args .z)
 fits c = search needs
 
 negative : (c : tie.Then1) → c .before .before .before .args .z <ℤ pos 0
-negative c = ltZ-true _ (pos 0) (lt-of {w = w64} (local (fits c)) (lit (pos 0)) (c .if1 .taken))
+negative c = ltZ-true _ (pos 0) (lt-of {w = w64} (as-read (fits c)) (lit (pos 0)) (c .if1 .taken))
 
 pub print-signed-spec : {M : Type 1} → statement M
 print-signed-spec =
@@ -52,7 +49,7 @@ print-signed-spec =
     (λ c.
     let z = c .before .before .before .before .args .z in
     let f : SFits w64 z = search needs in
-    known-to-u w64 f refl (yes-nonNeg (ltZ-false z (pos 0) (lt-of {w = w64} (local f) (lit (pos 0)) (c .before .if1 .left)))) tt)
+    known-to-u w64 f refl (yes-nonNeg (ltZ-false z (pos 0) (lt-of {w = w64} (as-read f) (lit (pos 0)) (c .before .if1 .left)))) tt)
     (λ c κs. search needs)
     (λ c. search needs)
     (λ c. search needs))
