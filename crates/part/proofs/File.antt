@@ -1,14 +1,16 @@
--- From the check's answer back to its questions.
+-- From the check's answer back to its questions; the numbers that they have (`file-numbered`).
 -- `accepted file e` says that every question of the file is answered yes, from `e : checkFile file ≡ Accepted n i`.
-use Prim.Native.Nat.{ℕ}
+use Prim.Native.Nat.{ℕ, _≤_}
 use native.Mathlib.Omega.{arith}
 use mathlib.Core.Path.{_≡_, refl}
-use mathlib.Core.List.{List}
+use mathlib.Core.List.{List, [], _∷_}
 use Rattle.part.specs.Questions.{firstNo}
-use Rattle.part.specs.File.{fileQuestions, answerOf, checkFile}
+use Rattle.part.specs.Nodes.{Record, heldAfter, recordQuestions, recordsQuestions}
+use Rattle.part.specs.File.{trailerQuestions, records, fileQuestions, answerOf, checkFile}
 use Rattle.part.specs.declared.Checked.the-variants.{Refused, Accepted}
 use Rattle.part.specs.declared.Verdict.{Verdict}
 use Rattle.part.specs.declared.Verdict.the-variants.{Yes, No}
+use Rattle.part.proofs.Questions.{Numbered, numbered-append}
 
 pub answer-accepted : (v : Verdict) (file : List ℕ) {n i : ℕ} → answerOf v file ≡ Accepted n i → v ≡ Yes
 unfolding answerOf
@@ -27,3 +29,21 @@ accepted file e = answer-accepted (firstNo (fileQuestions file)) file e
 pub refused : (file : List ℕ) {n : ℕ} → checkFile file ≡ Refused n → firstNo (fileQuestions file) ≡ No n
 unfolding checkFile
 refused file e = answer-refused (firstNo (fileQuestions file)) file e
+
+-- ---- the refusal numbers of a file are 1 to 11
+
+module _ (k : ℕ) (h : 11 ≤ k) where
+  records-numbered : (rs : List Record) (held : ℕ) → Numbered k (recordsQuestions rs held)
+  unfolding recordsQuestions recordQuestions
+  records-numbered [] held = (omega arith, omega arith, tt)
+  records-numbered (r ∷ later) held =
+      numbered-append k (recordQuestions r held) (recordsQuestions later (heldAfter (r .node) held))
+      (omega arith, omega arith, (omega arith, omega arith, (omega arith, omega arith, (omega arith, omega arith, (omega arith, omega arith, tt)))))
+      (records-numbered later (heldAfter (r .node) held))
+
+  pub file-numbered : (file : List ℕ) → Numbered k (fileQuestions file)
+  unfolding fileQuestions trailerQuestions
+  file-numbered file =
+      numbered-append k (trailerQuestions file) (recordsQuestions (records file) 0)
+      (omega arith, omega arith, (omega arith, omega arith, (omega arith, omega arith, (omega arith, omega arith, (omega arith, omega arith, tt)))))
+      (records-numbered (records file) 0)

@@ -33,6 +33,11 @@ unfolding recordsFrom recordsQuestions recordAt
 records-step file zero at held h = absurd (not-suc-le-zero h)
 records-step file (suc n) at held h = rw (sub-one (suc n)) (firstNo-append (recordQuestions (recordAt file at) held) _)
 
+pub nodes-step : (file : List ℕ) (n at : ℕ) → 0 < n → nodesFrom file n at ≡ nodeAt file at ∷ nodesFrom file (n - 1) (at + 12)
+unfolding nodesFrom recordsFrom recordAt
+nodes-step file zero at h = absurd (not-suc-le-zero h)
+nodes-step file (suc n) at h = rw (sub-one (suc n))
+
 -- ---- what the questions about a record say
 
 point-ranges : (n : Node) → inRange n ≡ true → PointRanges n
@@ -79,20 +84,19 @@ ready r held ok =
 
 -- ---- the nodes' numbers
 
-pub nodes-step : (file : List ℕ) (n at : ℕ) (l : List ℤ) (to : ℕ) → 0 < n
+pub numbers-step : (file : List ℕ) (n at : ℕ) (l : List ℤ) (to : ℕ) → 0 < n
     → sets l to (numbers (nodesFrom file n at))
     ≡ sets (sets l to (numbers (nodeAt file at ∷ []))) (to + 6) (numbers (nodesFrom file (n - 1) (at + 12)))
-unfolding nodesFrom recordsFrom recordAt numbers
-nodes-step file zero at l to h = absurd (not-suc-le-zero h)
-nodes-step file (suc n) at l to h =
-    rw (sub-one (suc n)) (sym (sets-append (numbers (nodeAt file at ∷ [])) (numbers (nodesFrom file n (at + 12))) l to))
+unfolding numbers
+numbers-step file n at l to h =
+    rw (nodes-step file n at h) (sym (sets-append (numbers (nodeAt file at ∷ [])) (numbers (nodesFrom file (n - 1) (at + 12))) l to))
 
 pub nodes-length : (file : List ℕ) (n at : ℕ) → length (nodesFrom file n at) ≡ n
 unfolding nodesFrom recordsFrom
 nodes-length file zero at = refl
 nodes-length file (suc n) at = ap suc (nodes-length file n (at + 12))
 
-pub numbers-length : (ns : List Node) → length (numbers ns) ≡ 6 * length ns
+numbers-length : (ns : List Node) → length (numbers ns) ≡ 6 * length ns
 unfolding numbers
 numbers-length [] = refl
 numbers-length (n ∷ later) = omega (arith, numbers-length later)
@@ -104,7 +108,7 @@ nodes-stored file n at l h =
     sets-whole (numbers (nodesFrom file n at)) l (6 * n) (numbers-length (nodesFrom file n at) ∙ ap (λ (k : ℕ). 6 * k) (nodes-length file n at)) h
 
 -- and each node is found at its place in the array
-pub in-after : (u l : List ℤ) (at : ℕ) → nodeIn (u ++ l) (length u + at) ≡ nodeIn l at
+in-after : (u l : List ℤ) (at : ℕ) → nodeIn (u ++ l) (length u + at) ≡ nodeIn l at
 unfolding nodeIn
 in-after u l at =
     rw (

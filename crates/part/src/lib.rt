@@ -40,7 +40,7 @@ pub struct Node {
 
 // ---- numbers in the bytes, little-endian
 
-fn u16_at(file: &[u8], at: usize) -> usize
+pub fn u16_at(file: &[u8], at: usize) -> usize
     requires { ⌜ at + 2 ≤ length (now file) ⌝ }
     ensures { λ r. ⌜ (r ≡ u16 (now (file .entry)) at) × (r < 65536) ⌝ }
 {
@@ -151,7 +151,7 @@ fn trailer_questions(file: &[u8]) -> Verdict
 // ---- the records
 
 // How many records there are before the trailer.
-fn count_of(file: &[u8]) -> usize
+pub fn count_of(file: &[u8]) -> usize
     requires { ⌜ Trailer (now file) ⌝ }
     ensures { λ r. ⌜ r ≡ count (now (file .entry)) ⌝ }
 {
@@ -159,7 +159,7 @@ fn count_of(file: &[u8]) -> usize
 }
 
 // Where the first record is.
-fn start_of(file: &[u8]) -> usize
+pub fn start_of(file: &[u8]) -> usize
     requires { ⌜ Trailer (now file) ⌝ }
     ensures { λ r. ⌜ r ≡ start (now (file .entry)) ⌝ }
 {
@@ -167,7 +167,7 @@ fn start_of(file: &[u8]) -> usize
 }
 
 // The node of the record at a place.
-fn node_at(file: &[u8], at: usize) -> Node
+pub fn node_at(file: &[u8], at: usize) -> Node
     requires { ⌜ at + 12 ≤ length (now file) ⌝ }
     ensures { λ r. ⌜ r ≡ nodeAt (now (file .entry)) at ⌝ }
 {

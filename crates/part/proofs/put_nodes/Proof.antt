@@ -10,7 +10,7 @@ use borrow.Author.Needs.{needs}
 use Rattle.part.specs.Nodes.{numbers}
 use Rattle.part.specs.File.{nodesFrom, recordsFrom}
 use Rattle.part.specs.declared.Node.{Node}
-use Rattle.part.proofs.Records.{nodes-step}
+use Rattle.part.proofs.Records.{numbers-step}
 use Rattle.part.proofs.put_nodes.Statement.{statement}
 use Rattle.part.proofs.put_nodes.Tie as tie
 
@@ -37,7 +37,7 @@ loop-again c =
       k ∙ l .inv .2,
       ap (λ (o : List ℤ). sets o (l .to + 6) (numbers (nodesFrom file (l .left - 1) (l .at + 12))))
           (p .ensures ∙ ap (λ (m : Node). sets (l .out) (l .to) (numbers (m ∷ []))) (n .ensures))
-          ∙ sym (nodes-step file (l .left) (l .at) (l .out) (l .to) (b .loop-test .taken)) ∙ l .inv .3,
+          ∙ sym (numbers-step file (l .left) (l .at) (l .out) (l .to) (b .loop-test .taken)) ∙ l .inv .3,
     )
 
 returns : tie.Need-returns Inv-loop μ-loop
