@@ -14,7 +14,6 @@ pub mod Tolerance
 pub mod Sum
 pub mod Demanded
 pub mod Marks
-pub mod Cases
 pub mod Offsets
 pub mod Lists
 pub mod Quotients

@@ -1,0 +1,10 @@
+pub mod Questions
+pub mod Halving
+pub mod FirstHit
+pub mod Bits
+pub mod Ticks
+pub mod Demands
+pub mod Span
+pub mod Calls
+pub mod Numbers
+pub mod Cases

@@ -1,0 +1,16 @@
+use native.Mathlib.Omega.{arith}
+use borrow.Author.Needs.{needs}
+use Rattle.cast.specs.Numbers.{columnNumber}
+use Rattle.cast.proofs.column_number.Statement.{statement}
+use Rattle.cast.proofs.column_number.Tie as tie
+
+pub column-number-spec : {M : Type 1} → statement M
+unfolding columnNumber
+column-number-spec =
+    tie.close
+    (tie.spec
+    (λ c. search needs)
+    (λ c. search needs)
+    (λ c. omega (arith, rw (c .before .answer2 .given .1) at (c .before .before .before .pre)))
+    (λ c. rw (c .before .answer .given .1))
+    (λ c. rw (c .before .answer2 .given .1)))

@@ -1,0 +1,52 @@
+-- `pack`: after k turns, k bytes are stored.
+use Prim.Native.Nat.{_-_, _≤_}
+use native.Mathlib.Omega.{arith}
+use mathlib.Core.Path.{_≡_, refl, _∙_}
+use mathlib.Core.List.{map}
+use lib.ListN.{length, length-set}
+use lib.Seq.{sets}
+use Rattle.exact.proofs.Buffers.{sets-whole}
+use Rattle.cast.specs.Column.{markBit, packed}
+use Rattle.cast.proofs.Bits.{length-packed, packed-more}
+use Rattle.cast.proofs.pack.Statement.{statement}
+use Rattle.cast.proofs.pack.Tie as tie
+
+abbrev Inv-loop : tie.InvT-loop
+Inv-loop marks n out₀ k₀ out k = (k ≤ n) × (out ≡ sets out₀ 0 (packed (map markBit marks) k)) × (length out ≡ length out₀)
+
+abbrev μ-loop : tie.MeasureT-loop
+μ-loop marks n out₀ k₀ out k = n - k
+
+loop-again : tie.Need-loop-again Inv-loop μ-loop
+loop-again c =
+    let l = c .before .before .loop in
+    let a = c .before .before .before .before .before .args in (
+      omega arith,
+      rw (l .inv .1, c .pack-byte .ensures) (packed-more (map markBit (a .marks .now)) (a .out .now) (l .k)),
+      length-set (l .out) (l .k) (c .pack-byte .result) ∙ l .inv .2,
+    )
+
+returns : tie.Need-returns Inv-loop μ-loop
+returns c =
+    let s = c .before .before .before .before in
+    let a = s .args in
+    let l = c .before .loop in
+    let e : l .k ≡ a .n = omega arith in
+    (rw e at (l .inv .1)) ∙ sets-whole (packed (map markBit (a .marks .now)) (a .n)) (a .out .now) (a .n) (length-packed _ (a .n)) (s .pre .1)
+
+pub pack-spec : {M : Type 1} → statement M
+unfolding packed
+pack-spec =
+    tie.close
+    (tie.spec
+    Inv-loop
+    μ-loop
+    (λ c. (omega arith, refl, refl))
+    (λ c. omega arith)
+    (λ c κs. omega arith)
+    (λ c. omega arith)
+    (λ c. omega arith)
+    (λ c. omega arith)
+    loop-again
+    (λ c. c .before .loop .inv .2)
+    returns)
