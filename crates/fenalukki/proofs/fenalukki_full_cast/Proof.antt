@@ -1,0 +1,15 @@
+use borrow.Author.Needs.{needs}
+use Rattle.cast.proofs.Numbers.{cast-number-fits}
+use Rattle.fenalukki.proofs.Host.{hosts-ray, host-cast}
+use Rattle.fenalukki.proofs.fenalukki_full_cast.Statement.{statement}
+use Rattle.fenalukki.proofs.fenalukki_full_cast.Tie as tie
+
+pub fenalukki-full-cast-spec : {M : Type 1} → statement M
+fenalukki-full-cast-spec =
+    tie.close
+    (tie.spec
+    (λ c κs. search needs)
+    (λ c κs. search needs)
+    (λ c κs. cast-number-fits _ _ _ _ (c .before .before .full-cast .ensures .1 .1 .1 .0))
+    (λ c. search needs)
+    (λ c. host-cast _ (hosts-ray _ _ _ _ _ _ (search needs) (search needs) (search needs) (search needs) (search needs) (search needs) (c .before .before .before .before .before .ray-of .ensures)) _ _ _ _ (c .before .before .before .full-cast .ensures) (c .cast-number .ensures)))
