@@ -157,8 +157,8 @@ fn within_reach(at: &[i32; 3]) -> bool {
     at.iter().all(|c| (-REACH..=REACH).contains(c))
 }
 
-/// Questions 1 to 13.
-fn accept(file: &[u8], ray: &Ray) -> Result<Part, u32> {
+/// Questions 1 to 13: the part, or the refusal number.
+pub fn accept(file: &[u8], ray: &Ray) -> Result<Part, u32> {
     let part = read(file)?;
     if !within_reach(&ray.a) || !within_reach(&ray.b) {
         return Err(12);

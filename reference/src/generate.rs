@@ -1,9 +1,7 @@
 //! Repeatable pseudo-random trees, rays and damaged files for tests.
 
 use crate::field::Ray;
-use crate::part::{
-    operator_record, point_record, FileBuilder, Kind, Node, Part, FILE_MARK, REACH,
-};
+use crate::part::{operator_record, point_record, FileBuilder, Kind, Node, Part, FILE_MARK, REACH};
 
 /// The SplitMix64 generator.
 #[derive(Clone, Debug)]
@@ -57,24 +55,55 @@ pub struct Shape {
     pub iso: (i64, i64),
 }
 
-/// A random part of the given shape.
+/// How a part's tree is joined.
+#[derive(Clone, Copy, Debug, PartialEq, Eq)]
+pub enum Form {
+    /// Each point joined to all before it.
+    LeftDeep,
+    /// Points held, up to 64 of them, before the first join.
+    RightDeep,
+    /// Halves of equal size as far as possible.
+    Balanced,
+    /// Joined at random.
+    Mixed,
+}
+
+/// All forms.
+pub const FORMS: [Form; 4] = [Form::LeftDeep, Form::RightDeep, Form::Balanced, Form::Mixed];
+
+/// A random part of the given shape, joined at random.
 pub fn part(random: &mut SplitMix64, shape: &Shape) -> Part {
-    let mut left = random.between(shape.points.0, shape.points.1);
-    let mut held = 0;
+    part_of_form(random, shape, Form::Mixed)
+}
+
+/// A random part of the given shape and form.
+pub fn part_of_form(random: &mut SplitMix64, shape: &Shape, form: Form) -> Part {
+    let points = random.between(shape.points.0, shape.points.1);
+    let (mut added, mut held) = (0, 0);
     let mut nodes = Vec::new();
-    while left > 0 || held > 1 {
-        let join = held >= 2 && (left == 0 || held == 64 || random.one_in(2));
-        if join {
+    while added < points || held > 1 {
+        let forced = added == points || held == 64;
+        if held >= 2 && (forced || joins(random, form, added, held)) {
             nodes.push(operator(random.pick(&[Kind::Sum, Kind::Greater])));
             held -= 1;
         } else {
             nodes.push(point(random, shape));
-            left -= 1;
+            added += 1;
             held += 1;
         }
     }
     let iso = random.between(shape.iso.0, shape.iso.1) as u16;
     Part { iso, nodes }
+}
+
+/// Whether two or more held values are joined before the next point.
+fn joins(random: &mut SplitMix64, form: Form, added: i64, held: u32) -> bool {
+    match form {
+        Form::LeftDeep => true,
+        Form::RightDeep => false,
+        Form::Balanced => held > added.count_ones(),
+        Form::Mixed => random.one_in(2),
+    }
 }
 
 fn operator(kind: Kind) -> Node {
@@ -99,6 +128,61 @@ fn point(random: &mut SplitMix64, shape: &Shape) -> Node {
         z,
         w: random.between(shape.weight.0, shape.weight.1) as i16,
     }
+}
+
+/// Two points that nearly cancel, so that many ticks stay undecided, and the
+/// greater of them and a third.
+pub fn cancelling(random: &mut SplitMix64) -> Part {
+    let w = random.between(500, 4000) as i16;
+    let r = random.between(300, 1000) as u16;
+    let mut near = || random.between(-3, 3) as i16;
+    let second = [near(), near(), near()];
+    let (more, wider) = (near() * 5, near());
+    let point = |r, [x, y, z]: [i16; 3], w| Node {
+        kind: Kind::Point,
+        r,
+        x,
+        y,
+        z,
+        w,
+    };
+    Part {
+        iso: random.between(1, 30) as u16,
+        nodes: vec![
+            point(r, [0; 3], w),
+            point(r.saturating_add_signed(wider), second, more - w),
+            operator(Kind::Sum),
+            point(200, [100, 0, 0], 20),
+            operator(Kind::Greater),
+        ],
+    }
+}
+
+/// Points on a grid of the sizes given, 360 steps apart about the origin and
+/// wide enough to meet: summed layer by layer, and the greater of the layers
+/// taken.
+pub fn lattice(sizes: [i16; 3]) -> Part {
+    let at = |i: i16, size: i16| 360 * i - 180 * (size - 1);
+    let mut nodes = Vec::new();
+    for k in 0..sizes[2] {
+        for (j, i) in (0..sizes[1]).flat_map(|j| (0..sizes[0]).map(move |i| (j, i))) {
+            nodes.push(Node {
+                kind: Kind::Point,
+                r: 300,
+                x: at(i, sizes[0]),
+                y: at(j, sizes[1]),
+                z: at(k, sizes[2]),
+                w: 4,
+            });
+            if i > 0 || j > 0 {
+                nodes.push(operator(Kind::Sum));
+            }
+        }
+        if k > 0 {
+            nodes.push(operator(Kind::Greater));
+        }
+    }
+    Part { iso: 1, nodes }
 }
 
 /// How a ray lies to the part.
@@ -268,6 +352,26 @@ pub fn random_records(random: &mut SplitMix64) -> Vec<u8> {
         builder = builder.raw(record);
     }
     builder.build()
+}
+
+/// A file with a fault that the question, 1 to 11, finds. Faults of 6 to 11
+/// are records added at the end, which find at most 20 values held.
+pub fn fault(builder: FileBuilder, question: u32) -> FileBuilder {
+    let mut nonzero = point_record(5, [0; 3], 1);
+    nonzero[1] = 1;
+    match question {
+        1 => builder.leading(&[0; 65_536]),
+        2 => builder.mark([0; 4]),
+        3 => builder.version(2),
+        4 => builder.distance(25),
+        5 => builder.iso(0),
+        6 => builder.raw(operator_record(4)),
+        7 => builder.raw(nonzero),
+        8 => builder.point(0, [0; 3], 1),
+        9 => (0..20).fold(builder, |b, _| b.sum()),
+        10 => (0..65).fold(builder, |b, _| b.point(1, [0; 3], 1)),
+        _ => builder.point(1, [0; 3], 1),
+    }
 }
 
 /// One or two changes: a byte, a bit, a cut, a doubled piece.

@@ -1,10 +1,22 @@
-//! The ray lister's text for the bytes of its standard input.
+//! The ray lister's input and its text for the bytes of its standard input.
 
 use crate::cast::{full_cast, FullCast, NOT_LOOKED_AT};
 use crate::field::Ray;
 
 /// Bytes before the file: six coordinates and the budget.
 const HEAD: usize = 14;
+
+/// The input of a ray, a budget and a file. Coordinates lose all but their
+/// low 16 bits.
+pub fn input(ray: &Ray, budget: u16, file: &[u8]) -> Vec<u8> {
+    let mut bytes = Vec::new();
+    for c in ray.a.iter().chain(&ray.b) {
+        bytes.extend_from_slice(&(*c as i16).to_le_bytes());
+    }
+    bytes.extend_from_slice(&budget.to_le_bytes());
+    bytes.extend_from_slice(file);
+    bytes
+}
 
 /// What the ray lister prints for `input`.
 pub fn list(input: &[u8]) -> String {

@@ -1,42 +1,18 @@
 //! Every case of "Rays and places tried".
 
+#[path = "common/worked.rs"]
+mod worked;
+
 use reference::cast::{
     bounds_at, column, first_hit, full_cast, Column, FirstHit, FullCast, Mark, COLUMN_BYTES,
 };
 use reference::field::{Bounds, Ray};
-use reference::lister::list;
+use reference::lister::{input, list};
 use reference::part::{check, FileBuilder};
-
-const AXIS: Ray = Ray {
-    a: [-1024, 0, 0],
-    b: [1024, 0, 0],
-};
-
-fn file_k() -> Vec<u8> {
-    FileBuilder::new(1).point(512, [0, 0, 0], 4).build()
-}
-
-/// The case's ray moved to another y.
-fn at_y(y: i32) -> Ray {
-    Ray {
-        a: [-1024, y, 0],
-        b: [1024, y, 0],
-    }
-}
+use worked::{at_y, file_k, AXIS};
 
 fn both(low: i64, high: i64) -> Result<Bounds, u32> {
     Ok(Bounds { low, high })
-}
-
-/// The lister's input.
-fn input(ray: &Ray, budget: u16, file: &[u8]) -> Vec<u8> {
-    let mut bytes = Vec::new();
-    for c in ray.a.iter().chain(&ray.b) {
-        bytes.extend_from_slice(&(*c as i16).to_le_bytes());
-    }
-    bytes.extend_from_slice(&budget.to_le_bytes());
-    bytes.extend_from_slice(file);
-    bytes
 }
 
 #[test]

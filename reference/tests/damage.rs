@@ -4,7 +4,7 @@
 use reference::cast::{bounds_at, column, first_hit, full_cast, FullCast};
 use reference::field::Ray;
 use reference::generate::{self, mutate, random_bytes, random_records, Shape, SplitMix64, STYLES};
-use reference::lister::list;
+use reference::lister::{input, list};
 use reference::part::{check, FileBuilder, Part};
 use reference::view::{viewer_first_hit, ViewRay};
 
@@ -125,12 +125,7 @@ fn lister_on_random_input() {
     for _ in 0..2_000 {
         let (part, file) = random_part(&mut random);
         let ray = random_ray(&mut random, &part);
-        let mut input = Vec::new();
-        for c in ray.a.iter().chain(&ray.b) {
-            input.extend_from_slice(&(*c as i16).to_le_bytes());
-        }
-        input.extend_from_slice(&(random.next_u64() as u16 >> 6).to_le_bytes());
-        input.extend(file);
+        let mut input = input(&ray, random.next_u64() as u16 >> 6, &file);
         if random.one_in(2) {
             mutate(&mut random, &mut input);
         }

@@ -5,7 +5,7 @@ use reference::cast::{column, first_hit, full_cast, FirstHit, FullCast};
 use reference::field::{field_at, nearest, tolerance, Ray};
 use reference::fraction::Fraction;
 use reference::generate::{self, Shape, SplitMix64, Style, STYLES};
-use reference::part::{read, FileBuilder, Kind, Node, Part};
+use reference::part::{FileBuilder, Kind, Node, Part};
 
 /// One ray of one part with its marks.
 struct Case {
@@ -215,28 +215,12 @@ fn single_points_near_the_surface() {
     }
 }
 
-/// Two points that nearly cancel, so that many ticks stay undecided.
-fn cancelling(random: &mut SplitMix64) -> Part {
-    let w = random.between(500, 4000) as i16;
-    let r = random.between(300, 1000) as u16;
-    let mut near = || random.between(-3, 3) as i16;
-    let second = [near(), near(), near()];
-    let (more, wider) = (near() * 5, near());
-    let file = FileBuilder::new(random.between(1, 30) as u16)
-        .point(r, [0; 3], w)
-        .point(r.saturating_add_signed(wider), second, more - w)
-        .sum()
-        .point(200, [100, 0, 0], 20)
-        .greater();
-    read(&file.build()).expect("accepted")
-}
-
 #[test]
 fn cancelling_points() {
     let mut random = SplitMix64::new(37);
     let mut seen = [0; 3];
     for i in 0..120 {
-        let part = cancelling(&mut random);
+        let part = generate::cancelling(&mut random);
         let ray = generate::ray(&mut random, &part, STYLES[i % STYLES.len()]);
         let mut case = Case::new(part, ray, 2047);
         case.check_all(3, &[7 * 1024 + 1]);

@@ -2,6 +2,7 @@
 
 use reference::cast::{bounds_at, column, first_hit, full_cast, Column, FirstHit, FullCast};
 use reference::field::Ray;
+use reference::generate::fault;
 use reference::part::{check, operator_record, point_record, read, FileBuilder, Kind, RECORD};
 use reference::view::{viewer_first_hit, ViewRay, ViewerHit};
 
@@ -294,54 +295,20 @@ fn leading_bytes_are_ignored() {
     assert_accepted(&plain.leading(&whole).build(), 3, 1);
 }
 
-/// A fault of questions 1 to 5, applied to a builder.
-fn header_fault(builder: FileBuilder, question: u32) -> FileBuilder {
-    match question {
-        1 => builder.leading(&[0; 65_536]),
-        2 => builder.mark([0; 4]),
-        3 => builder.version(2),
-        4 => builder.distance(25),
-        _ => builder.iso(0),
-    }
-}
-
-/// Records that get question 6 to 10 a no at their last record, whatever
-/// was held before, up to 20 values.
-fn record_fault(builder: FileBuilder, question: u32) -> FileBuilder {
-    let mut zero = point_record(5, [0; 3], 1);
-    zero[1] = 1;
-    match question {
-        6 => builder.raw(operator_record(4)),
-        7 => builder.raw(zero),
-        8 => builder.point(0, [0; 3], 1),
-        9 => (0..20).fold(builder, |b, _| b.sum()),
-        _ => (0..65).fold(builder, |b, _| b.point(1, [0; 3], 1)),
-    }
-}
-
 #[test]
 fn single_faults() {
-    for question in 1..=5 {
-        assert_refused(&header_fault(two_points(), question).build(), question);
-    }
-    for question in 6..=10 {
-        assert_refused(&record_fault(two_points(), question).build(), question);
+    for question in 1..=11 {
+        assert_refused(&fault(two_points(), question).build(), question);
     }
 }
 
 #[test]
 fn pairs_of_faults_in_the_trailer() {
     for first in 1..=5 {
-        for second in first + 1..=5 {
-            let both = header_fault(header_fault(two_points(), second), first);
+        for second in first + 1..=11 {
+            let both = fault(fault(two_points(), second), first);
             assert_refused(&both.build(), first);
         }
-        for second in 6..=10 {
-            let both = header_fault(record_fault(two_points(), second), first);
-            assert_refused(&both.build(), first);
-        }
-        let two_values = one_point().point(1, [0; 3], 1);
-        assert_refused(&header_fault(two_values, first).build(), first);
     }
 }
 
@@ -349,10 +316,10 @@ fn pairs_of_faults_in_the_trailer() {
 fn pairs_of_faults_in_different_records() {
     for first in 6..=10 {
         for second in 6..=10 {
-            let both = record_fault(record_fault(two_points(), first), second);
+            let both = fault(fault(two_points(), first), second);
             assert_refused(&both.build(), first);
         }
-        let two_values = record_fault(one_point().point(1, [0; 3], 1), first);
+        let two_values = fault(one_point().point(1, [0; 3], 1), first);
         assert_refused(&two_values.point(1, [0; 3], 1).build(), first);
     }
 }

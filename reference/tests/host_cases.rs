@@ -1,0 +1,234 @@
+//! The C entries of the archive on every ray of "Rays and places tried", on
+//! each refusal, on a small stack, on several threads and from C.
+
+#[path = "common/host.rs"]
+mod host;
+#[path = "common/worked.rs"]
+mod worked;
+
+use host::{column, entries, first_hit, full_cast};
+use reference::cast::{Column, FirstHit, FullCast, Mark};
+use reference::field::Ray;
+use reference::generate::fault;
+use reference::part::FileBuilder;
+use std::path::Path;
+use std::process::Command;
+use std::thread;
+use worked::{at_y, file_k, AXIS};
+
+/// The marks that the archive alone leaves of an unlimited full cast.
+fn marks(file: &[u8], ray: &Ray) -> [u8; 1024] {
+    let mut marks = [9; 1024];
+    entries::full_cast(file, ray, 2047, &mut marks);
+    marks
+}
+
+/// All three calls refuse with the number.
+fn assert_refused(file: &[u8], ray: &Ray, number: u32) {
+    for room in [0, 127, 128, 1023, 1024, 2000] {
+        let cast = full_cast(file, ray, 2047, room);
+        assert_eq!(cast, FullCast::Refused(number));
+        assert_eq!(column(file, ray, room), Column::Refused(number));
+    }
+    assert_eq!(first_hit(file, ray, 2047), FirstHit::Refused(number));
+}
+
+#[test]
+fn the_axis_ray() {
+    let k = file_k();
+    let cast = full_cast(&k, &AXIS, 2047, 1024);
+    assert_eq!(cast.number(), 65_536 + 39);
+    assert_eq!(column(&k, &AXIS, 128).number(), 65_536 + 39);
+    let hit = FirstHit::Hit {
+        tick: 330,
+        mark: Mark::Crossing,
+        probes: 15,
+    };
+    for budget in [15, 16, 39, 2047, u32::MAX] {
+        assert_eq!(first_hit(&k, &AXIS, budget), hit);
+    }
+}
+
+#[test]
+fn every_budget_of_the_axis_ray() {
+    let k = file_k();
+    for budget in 0..=41 {
+        let spent = matches!(full_cast(&k, &AXIS, budget, 1024), FullCast::Spent { .. });
+        assert_eq!(spent, budget < 39);
+        let spent = matches!(first_hit(&k, &AXIS, budget), FirstHit::Spent { .. });
+        assert_eq!(spent, budget < 15);
+    }
+    let spent = FullCast::Spent {
+        probes: 14,
+        tick: 330,
+    };
+    assert_eq!(full_cast(&k, &AXIS, 14, 1024), spent);
+    let number = (4 << 32) + (330 << 16) + 14;
+    assert_eq!(first_hit(&k, &AXIS, 14).number(), number);
+}
+
+#[test]
+fn y_512_is_all_empty() {
+    let k = file_k();
+    assert_eq!(full_cast(&k, &at_y(512), 1, 1024).number(), 65_537);
+    assert_eq!(first_hit(&k, &at_y(512), 1).number(), (3 << 32) + 1);
+    assert_eq!(column(&k, &at_y(512), 128).number(), 65_537);
+    assert_eq!(marks(&k, &at_y(512)), [0; 1024]);
+}
+
+#[test]
+fn y_362_crosses_inside_509_and_514() {
+    let k = file_k();
+    assert_eq!(full_cast(&k, &at_y(362), 2047, 1024).number(), 65_575);
+    assert_eq!(column(&k, &at_y(362), 128).number(), 65_575);
+    let mut expected = [0; 1024];
+    expected[509..515].copy_from_slice(&[1, 2, 2, 2, 2, 1]);
+    assert_eq!(marks(&k, &at_y(362)), expected);
+}
+
+#[test]
+fn weights_4_and_minus_4_cancel() {
+    let builder = FileBuilder::new(1).point(512, [0; 3], 4);
+    let file = builder.point(512, [0; 3], -4).sum().build();
+    let cast = full_cast(&file, &AXIS, 2047, 1024);
+    assert!(matches!(cast, FullCast::Complete { probes } if probes > 1));
+    assert_eq!(marks(&file, &AXIS), [0; 1024]);
+    assert_eq!(column(&file, &AXIS, 128).probes(), cast.probes());
+    assert!(matches!(
+        first_hit(&file, &AXIS, 2047),
+        FirstHit::Clear { .. }
+    ));
+}
+
+#[test]
+fn an_inside_hit() {
+    let file = FileBuilder::new(1).point(1024, [0; 3], 4096).build();
+    let ray = Ray {
+        a: [1, 0, 0],
+        b: [2, 0, 0],
+    };
+    assert_eq!(first_hit(&file, &ray, 1).number(), (2 << 32) + 1);
+    assert_eq!(full_cast(&file, &ray, 1, 1024).number(), 65_537);
+    assert_eq!(marks(&file, &ray), [2; 1024]);
+}
+
+#[test]
+fn refused_files() {
+    let radius = |r| FileBuilder::new(1).point(r, [0; 3], 4).build();
+    assert!(full_cast(&radius(1024), &AXIS, 2047, 1024)
+        .probes()
+        .is_some());
+    assert_refused(&radius(1025), &AXIS, 8);
+    assert_refused(&FileBuilder::new(1).sum().build(), &AXIS, 9);
+    let held = (0..65).fold(FileBuilder::new(1), |b, _| b.point(1, [0; 3], 1));
+    assert_refused(&held.build(), &AXIS, 10);
+    let k = FileBuilder::new(1).point(512, [0; 3], 4);
+    assert_refused(&k.clone().mark([0; 4]).version(9).build(), &AXIS, 2);
+    for question in 1..=11 {
+        assert_refused(&fault(k.clone(), question).build(), &AXIS, question);
+    }
+    for length in 0..24 {
+        assert_refused(&k.build()[..length], &AXIS, 1);
+    }
+}
+
+#[test]
+fn refused_rays() {
+    let k = file_k();
+    let met = Ray {
+        a: [5, 6, 7],
+        b: [5, 6, 7],
+    };
+    assert_refused(&k, &met, 13);
+    for value in [2048, -2048, 65_536, i32::MAX, i32::MIN] {
+        for i in 0..6 {
+            let mut ray = AXIS;
+            let end = if i < 3 { &mut ray.a } else { &mut ray.b };
+            end[i % 3] = value;
+            assert_refused(&k, &ray, 12);
+        }
+    }
+    for value in [2047, -2047] {
+        let ray = Ray {
+            a: [value; 3],
+            b: [-value; 3],
+        };
+        assert!(full_cast(&k, &ray, 2047, 1024).probes().is_some());
+    }
+}
+
+#[test]
+fn refused_buffers() {
+    let k = file_k();
+    for room in [0, 1, 128, 1022, 1023] {
+        assert_eq!(full_cast(&k, &AXIS, 2047, room), FullCast::Refused(14));
+    }
+    for room in [0, 1, 126, 127] {
+        assert_eq!(column(&k, &AXIS, room), Column::Refused(14));
+    }
+    for room in [1024, 1025, 5000] {
+        assert_eq!(full_cast(&k, &AXIS, 2047, room).probes(), Some(39));
+        assert_eq!(column(&k, &AXIS, room).probes(), Some(39));
+    }
+}
+
+/// The most records, with a ray that needs many probes.
+fn most_records() -> (Vec<u8>, Ray) {
+    let mut file = FileBuilder::new(1).point(900, [0, 1, 2], 3);
+    for i in 1..256 {
+        let w = if i % 2 == 0 { 3 } else { -3 };
+        file = file.point(900, [i, -i, 2], w).sum();
+    }
+    (file.build(), at_y(300))
+}
+
+#[test]
+fn a_stack_of_64_kib() {
+    let calls = || {
+        let (file, ray) = most_records();
+        let (mut marks, mut bits) = (vec![9; 1024], vec![9; 128]);
+        let cast = entries::full_cast(&file, &ray, 2047, &mut marks);
+        let done = entries::column(&file, &ray, &mut bits);
+        assert_eq!(cast, done);
+        assert!(cast > 65_536 + 100);
+        assert!(entries::first_hit(&file, &ray, 2047) > 65_536);
+    };
+    let small = thread::Builder::new().stack_size(64 * 1024);
+    small.spawn(calls).expect("starts").join().expect("ends");
+}
+
+#[test]
+fn several_threads_on_one_file() {
+    let (file, ray) = most_records();
+    let expected = marks(&file, &ray);
+    thread::scope(|scope| {
+        for _ in 0..4 {
+            scope.spawn(|| (0..10).for_each(|_| assert_eq!(marks(&file, &ray), expected)));
+        }
+    });
+    full_cast(&file, &ray, 2047, 1024);
+}
+
+/// What `examples/host.c` prints, compiled against the header without a
+/// warning.
+#[test]
+fn a_host_in_c() {
+    let root = Path::new(env!("CARGO_MANIFEST_DIR")).join("..");
+    let program = Path::new(env!("CARGO_TARGET_TMPDIR")).join("host");
+    let built = Command::new("cc")
+        .args(["-std=c99", "-Wall", "-Wextra", "-pedantic", "-Werror", "-I"])
+        .arg(root.join("include"))
+        .arg(root.join("examples/host.c"))
+        .arg(root.join("target/staticlib/libfenalukki.a"))
+        .arg("-o")
+        .arg(&program)
+        .status();
+    assert!(built.expect("a C compiler, cc").success());
+    let output = Command::new(program).output().expect("starts");
+    let expected = "\
+        full cast complete probes 39: empty 660 crossing 2 inside 362 not looked at 0\n\
+        full cast spent probes 14: empty 330 crossing 0 inside 0 not looked at 694\n\
+        first hit crossing tick 330 probes 15\n\
+        column probes 39: ticks 328 to 335 are 00111111\n";
+    assert_eq!(String::from_utf8_lossy(&output.stdout), expected);
+}

@@ -1,0 +1,309 @@
+//! The C entries of the archive on generated requests: trees of all forms and
+//! sizes, damaged files, rays of all styles, budgets and rooms at their
+//! limits. What was covered is counted, printed and asserted.
+
+#[path = "common/host.rs"]
+mod host;
+
+use reference::cast::{self, Column, FirstHit, FullCast, Mark};
+use reference::field::Ray;
+use reference::generate::{self, cancelling, fault, mutate, part_of_form};
+use reference::generate::{random_bytes, random_records};
+use reference::generate::{Form, Shape, SplitMix64, Style, FORMS, STYLES};
+use reference::part::{check, FileBuilder, Part};
+
+/// What the requests covered.
+#[derive(Debug, Default)]
+struct Coverage {
+    requests: u32,
+    /// By refusal number.
+    refused: [u32; 15],
+    complete: u32,
+    spent: u32,
+    crossing_hits: u32,
+    inside_hits: u32,
+    clear: u32,
+    hits_spent: u32,
+    columns: u32,
+    /// Requests not refused by their place in `budget`.
+    budgets: [u32; 7],
+    /// Requests by their place in `room`.
+    rooms: [u32; 4],
+    /// Complete full casts by probes: 1, to 19, to 199, more.
+    probes: [u32; 4],
+    /// Accepted files of 511 records.
+    most_records: u32,
+}
+
+impl Coverage {
+    fn full_cast(&mut self, answer: FullCast, budget: usize) {
+        self.requests += 1;
+        match answer {
+            FullCast::Refused(number) => return self.refused[number as usize] += 1,
+            FullCast::Complete { probes } => {
+                self.complete += 1;
+                let size = [2, 20, 200].iter().filter(|&&n| probes >= n).count();
+                self.probes[size] += 1;
+            }
+            FullCast::Spent { .. } => self.spent += 1,
+        }
+        self.budgets[budget] += 1;
+    }
+
+    fn first_hit(&mut self, answer: FirstHit, budget: usize) {
+        self.requests += 1;
+        match answer {
+            FirstHit::Refused(number) => return self.refused[number as usize] += 1,
+            FirstHit::Hit {
+                mark: Mark::Inside, ..
+            } => self.inside_hits += 1,
+            FirstHit::Hit { .. } => self.crossing_hits += 1,
+            FirstHit::Clear { .. } => self.clear += 1,
+            FirstHit::Spent { .. } => self.hits_spent += 1,
+        }
+        self.budgets[budget] += 1;
+    }
+
+    fn column(&mut self, answer: Column) {
+        self.requests += 1;
+        match answer {
+            Column::Refused(number) => self.refused[number as usize] += 1,
+            Column::Done { .. } => self.columns += 1,
+        }
+    }
+
+    /// No class of requests is rare.
+    fn assert_populated(&self) {
+        let all = |classes: &[u32], least: u32| classes.iter().all(|&n| n >= least);
+        assert_eq!(self.requests, 98_500);
+        assert!(all(&self.refused[1..], 400));
+        assert!(all(&[self.complete, self.spent, self.columns], 6_000));
+        assert!(all(&[self.crossing_hits, self.inside_hits], 2_000));
+        assert!(all(&[self.clear, self.hits_spent], 6_000));
+        assert!(all(&self.budgets, 5_000) && all(&self.rooms, 2_500));
+        assert!(all(&self.probes, 200) && self.most_records >= 200);
+    }
+}
+
+/// A file, a ray, and the probes that a full cast and a first hit need.
+struct Scene {
+    file: Vec<u8>,
+    ray: Ray,
+    cast_count: u32,
+    hit_count: u32,
+}
+
+impl Scene {
+    fn new(file: Vec<u8>, ray: Ray) -> Scene {
+        let cast = cast::column(&file, &ray, &mut [0; 128]);
+        let hit = cast::first_hit(&file, &ray, u32::MAX);
+        Scene {
+            file,
+            ray,
+            cast_count: cast.probes().unwrap_or(1),
+            hit_count: hit.probes().unwrap_or(1),
+        }
+    }
+
+    /// Two full casts, two first hits and a column.
+    fn compare(&self, random: &mut SplitMix64, coverage: &mut Coverage) {
+        let most = matches!(check(&self.file), Ok((511, _)));
+        coverage.most_records += u32::from(most);
+        for _ in 0..2 {
+            let kind = random.between(0, 6) as usize;
+            let budget = budget(kind, self.cast_count);
+            let room = room(random, 1024, coverage);
+            let answer = host::full_cast(&self.file, &self.ray, budget, room);
+            coverage.full_cast(answer, kind);
+            let kind = random.between(0, 6) as usize;
+            let budget = self::budget(kind, self.hit_count);
+            let answer = host::first_hit(&self.file, &self.ray, budget);
+            coverage.first_hit(answer, kind);
+        }
+        let room = room(random, 128, coverage);
+        coverage.column(host::column(&self.file, &self.ray, room));
+    }
+}
+
+/// The budget of a kind for a call that needs `count` probes.
+fn budget(kind: usize, count: u32) -> u32 {
+    [0, 1, count - 1, count, count + 1, 2047, u32::MAX][kind]
+}
+
+/// Room for `need` bytes, of a random kind; too little once in eight.
+fn room(random: &mut SplitMix64, need: usize, coverage: &mut Coverage) -> usize {
+    let kind = random.pick(&[0, 1, 2, 2, 2, 2, 2, 2, 2, 3, 3, 3, 3, 3, 3, 3]);
+    coverage.rooms[kind] += 1;
+    let more = need + random.between(1, 300) as usize;
+    [0, need - 1, need, more][kind]
+}
+
+/// The file of a part; a damaged one, or other bytes, once in five.
+fn file(random: &mut SplitMix64, part: &Part) -> Vec<u8> {
+    let leading = vec![1; random.pick(&[0, 0, 0, 1, 12, 100])];
+    let builder = FileBuilder::from(part).leading(&leading);
+    let mut file = builder.build();
+    match random.between(0, 24) {
+        0..=1 => file = fault(builder, random.between(1, 11) as u32).build(),
+        2 => mutate(random, &mut file),
+        3 => file.truncate(random.between(0, file.len() as i64) as usize),
+        4 => file = random.pick(&[random_bytes, random_records])(random),
+        _ => {}
+    }
+    file
+}
+
+/// A ray, mostly one that comes near a point; one that is refused once in ten.
+fn ray(random: &mut SplitMix64, part: &Part) -> Ray {
+    let far = random.pick(&[2048, -2048, 65_536, i32::MAX, i32::MIN]);
+    let style = match random.one_in(3) {
+        true => random.pick(&STYLES),
+        false => random.pick(&STYLES[..4]),
+    };
+    let mut ray = generate::ray(random, part, style);
+    match random.between(0, 29) {
+        0 => ray.b = ray.a,
+        1 => ray.a[random.between(0, 2) as usize] = far,
+        2 => ray.b[random.between(0, 2) as usize] = far,
+        _ => {}
+    }
+    ray
+}
+
+/// How many parts, and their shape.
+const GROUPS: [(usize, Shape); 8] = [
+    // single points
+    (
+        4_000,
+        Shape {
+            points: (1, 1),
+            reach: 900,
+            radius: (1, 1024),
+            weight: (1, 400),
+            iso: (1, 40),
+        },
+    ),
+    // a few points of either sign
+    (
+        5_000,
+        Shape {
+            points: (2, 6),
+            reach: 400,
+            radius: (100, 1024),
+            weight: (-20, 60),
+            iso: (1, 8),
+        },
+    ),
+    // a few small points near each other
+    (
+        2_000,
+        Shape {
+            points: (1, 5),
+            reach: 9,
+            radius: (1, 9),
+            weight: (-4096, 4096),
+            iso: (1, 2000),
+        },
+    ),
+    // points at one place, whose weights may cancel
+    (
+        1_000,
+        Shape {
+            points: (2, 3),
+            reach: 0,
+            radius: (500, 512),
+            weight: (-4, 4),
+            iso: (1, 2),
+        },
+    ),
+    // none of positive weight
+    (
+        500,
+        Shape {
+            points: (1, 8),
+            reach: 300,
+            radius: (300, 1024),
+            weight: (-4096, -1),
+            iso: (1, 9),
+        },
+    ),
+    // everywhere
+    (
+        2_000,
+        Shape {
+            points: (10, 50),
+            reach: 2047,
+            radius: (1, 1024),
+            weight: (-4096, 4096),
+            iso: (1, 4096),
+        },
+    ),
+    // 64 values held by every right-deep one
+    (
+        800,
+        Shape {
+            points: (64, 120),
+            reach: 900,
+            radius: (50, 900),
+            weight: (-30, 90),
+            iso: (1, 60),
+        },
+    ),
+    // the most records
+    (
+        400,
+        Shape {
+            points: (256, 256),
+            reach: 1500,
+            radius: (50, 700),
+            weight: (-40, 60),
+            iso: (1, 80),
+        },
+    ),
+];
+
+/// Requests on `scenes` parts.
+fn requests(
+    random: &mut SplitMix64,
+    coverage: &mut Coverage,
+    scenes: usize,
+    part: impl Fn(&mut SplitMix64, usize) -> Part,
+) {
+    for i in 0..scenes {
+        let part = part(random, i);
+        let file = file(random, &part);
+        let ray = ray(random, &part);
+        Scene::new(file, ray).compare(random, coverage);
+    }
+}
+
+#[test]
+fn all_kinds() {
+    let mut random = SplitMix64::new(101);
+    let mut coverage = Coverage::default();
+    for (scenes, shape) in GROUPS {
+        let part = |random: &mut SplitMix64, i| part_of_form(random, &shape, FORMS[i % 4]);
+        requests(&mut random, &mut coverage, scenes, part);
+    }
+    requests(&mut random, &mut coverage, 4_000, |r, _| cancelling(r));
+    println!("{coverage:#?}");
+    coverage.assert_populated();
+}
+
+#[test]
+fn cut_files() {
+    let mut random = SplitMix64::new(102);
+    let mut coverage = Coverage::default();
+    for (_, shape) in &GROUPS[..3] {
+        let part = part_of_form(&mut random, shape, Form::Mixed);
+        let file = FileBuilder::from(&part).leading(&[1; 30]).build();
+        let ray = generate::ray(&mut random, &part, Style::Centre);
+        for length in 0..=file.len() {
+            Scene::new(file[..length].to_vec(), ray).compare(&mut random, &mut coverage);
+            let end = file[file.len() - length..].to_vec();
+            Scene::new(end, ray).compare(&mut random, &mut coverage);
+        }
+    }
+    println!("{coverage:#?}");
+    assert!(coverage.refused[1] > 200 && coverage.columns > 50);
+}
