@@ -25,7 +25,7 @@ unfoldable pub packed : List ℕ → ℕ → List ℕ
 packed bits zero = []
 packed bits (suc n) = packed bits n ++ byteAt bits (8 * n) ∷ []
 
--- how many of n ticks were looked at
+-- how many of n ticks were looked at: none if it is refused, otherwise all
 unfoldable pub columnLookedAt : ℕ → ColumnAnswer → ℕ
 columnLookedAt n (Refused number) = 0
 columnLookedAt n (Complete probes) = n

@@ -30,8 +30,8 @@ module _ (state : ℕ → ℕ → ℕ) (budget : ℕ) where
       let probed = cond (eqb s 1) halves whole in
       cond (ltb made budget) probed (Spent i made)
 
--- how many of n ticks were looked at: those before the one reached if it is spent, "those up to and including the hit's tick if it answers a hit, and
--- otherwise all"
+-- how many of n ticks were looked at: none if it is refused, those before the one reached if it is spent, "those up to and including the hit's tick if it
+-- answers a hit, and otherwise all"
 unfoldable pub hitLookedAt : ℕ → HitAnswer → ℕ
 hitLookedAt n (Refused number) = 0
 hitLookedAt n (Hit tick mark probes) = tick + 1

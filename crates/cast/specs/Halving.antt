@@ -47,13 +47,13 @@ module _ (state : ℕ → ℕ → ℕ) where
         let probed = cond (eqb (state i (2 ^ suc k)) 1) halves (Complete (made + 1)) in
         cond (ltb made budget) probed (Spent i made)
 
--- how many of n ticks a cast looked at: "those before the one reached […] if the call is spent", otherwise all
+-- how many of n ticks a cast looked at: "those before the one reached […] if the call is spent", none if it is refused, otherwise all
 unfoldable pub castLookedAt : ℕ → CastAnswer → ℕ
 castLookedAt n (Refused number) = 0
 castLookedAt n (Complete probes) = n
 castLookedAt n (Spent tick probes) = tick
 
--- the probes that a cast made
+-- the probes that a cast made; a refused one makes none
 unfoldable pub castProbes : CastAnswer → ℕ
 castProbes (Refused number) = 0
 castProbes (Complete probes) = probes
