@@ -53,12 +53,12 @@ answer (hits file ray budget) = found (firstHit file ray budget)
 -- ---- files, places and rays
 
 -- a file of one point at the origin, iso 1: the two bytes of r, and those of w
-abbrev onePoint : ℕ → ℕ → ℕ → ℕ → List ℕ
+abbrev pub onePoint : ℕ → ℕ → ℕ → ℕ → List ℕ
 onePoint r r′ w w′ =
     1 ∷ 0 ∷ r ∷ r′ ∷ 0 ∷ 0 ∷ 0 ∷ 0 ∷ 0 ∷ 0 ∷ w ∷ w′
     ∷ 0x01 ∷ 0x00 ∷ 0x01 ∷ 0x00 ∷ 0x18 ∷ 0x00 ∷ 0x00 ∷ 0x00 ∷ 0x54 ∷ 0x52 ∷ 0x45 ∷ 0x45 ∷ []
 
-abbrev fileK : List ℕ
+abbrev pub fileK : List ℕ
 fileK = onePoint 0x00 0x02 0x04 0x00
 
 -- file K with version 2 and a last byte 44

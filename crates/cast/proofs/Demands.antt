@@ -56,13 +56,13 @@ module _ (file : List ℕ) (ray : Ray) where
   unfolding Sound markOf
   sound tree limit t h x = marks-1024 ray (nodes file) tree (iso file) t x
 
-  none : Sound file ray 0
+  pub no-ticks : Sound file ray 0
   unfolding Sound
-  none t h x = absurd (omega arith)
+  no-ticks t h x = absurd (omega arith)
 
   by-verdict : (v : Verdict) (looked : Verdict → ℕ) → (v ≡ Yes → Tree (nodes file)) → ((n : ℕ) → looked (No n) ≡ 0) → Sound file ray (looked v)
   by-verdict Yes looked tree zero = sound (tree refl) (looked Yes)
-  by-verdict (No n) looked tree zero = rw (zero n) none
+  by-verdict (No n) looked tree zero = rw (zero n) no-ticks
 
   pub cast-sound : (budget room : ℕ) → Sound file ray (castLookedAt 1024 (fullCast file ray budget room))
   unfolding fullCast castAfter castLookedAt
@@ -154,7 +154,7 @@ module _ (file : List ℕ) (ray : Ray) where
 
   -- ---- the first hit
 
-  ray-found : firstNo (hitQuestions file ray) ≡ Yes → (budget : ℕ) → Found (rayState file ray) budget 10 0 0 (rayHit file ray budget)
+  pub ray-found : firstNo (hitQuestions file ray) ≡ Yes → (budget : ℕ) → Found (rayState file ray) budget 10 0 0 (rayHit file ray budget)
   ray-found e budget = hits (rayState file ray) budget (ray-nested file ray (hit-tree e)) 10 0 0 (omega arith)
 
   pub hit-counted : (budget : ℕ) → CountedHit file ray budget (firstHit file ray budget)
@@ -184,3 +184,11 @@ module _ (file : List ℕ) (ray : Ray) where
       go : (v : Verdict) → firstNo (hitQuestions file ray) ≡ v → AloneHit file ray (hitAfter v file ray budget)
       go Yes e = by-answer (rayHit file ray budget) (ray-found e budget)
       go (No n) e = tt
+
+  -- it looks at no more ticks than there are
+  pub hit-within : (f : HitAnswer) → AloneHit file ray f → hitLookedAt 1024 f ≤ 1024
+  unfolding AloneHit hitLookedAt
+  hit-within (found.Refused n) alone = omega arith
+  hit-within (found.Hit t s p) (before, is, some, empty) = omega arith
+  hit-within (found.Clear p) alone = omega arith
+  hit-within (found.Spent t p) (before, empty) = omega arith

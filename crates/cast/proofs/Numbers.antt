@@ -1,7 +1,13 @@
--- The slicing host's numbers fit, by what the calls promise: a refusal is at most 14, a call has at most 2,047 probes, and a tick is below 1,024.
+-- The slicing host's ray as it is read (`hosts-ray`). Its numbers fit, by what the calls promise: a refusal is at most 14, a call has at most 2,047 probes, and a tick is below 1,024.
+use mathlib.Core.Path.{_≡_, _∙_}
 use mathlib.Core.List.{List}
 use Prim.Native.Nat.{ℕ, _^_, _<_}
 use native.Mathlib.Omega.{arith}
+use lib.IntN.{ℤ}
+use mir.Syntax.{w32}
+use mir.Val.{SFits}
+use mir.Facts.{toZ-ofZ}
+use Rattle.exact.proofs.Machine.{back}
 use Rattle.field.specs.declared.Ray.{Ray}
 use Rattle.cast.specs.declared.CastAnswer.{CastAnswer}
 use Rattle.cast.specs.declared.CastAnswer.the-variants as cast
@@ -9,9 +15,16 @@ use Rattle.cast.specs.declared.HitAnswer.{HitAnswer}
 use Rattle.cast.specs.declared.HitAnswer.the-variants as found
 use Rattle.cast.specs.declared.ColumnAnswer.{ColumnAnswer}
 use Rattle.cast.specs.declared.ColumnAnswer.the-variants as column
-use Rattle.cast.specs.Numbers.{castNumber, hitNumber, columnNumber}
+use Rattle.cast.specs.Numbers.{rayOf, castNumber, hitNumber, columnNumber}
 use Rattle.cast.specs.Demands.{AloneHit, Counted, CountedHit, CountedColumn}
 use Rattle.cast.proofs.Ticks.{mark-few}
+
+-- the ray of the host's six numbers, as they are read
+pub hosts-ray : (ax ay az bx by bz : ℤ) {ray : Ray}
+    → SFits w32 ax → SFits w32 ay → SFits w32 az → SFits w32 bx → SFits w32 by → SFits w32 bz
+    → ray ≡ rayOf (back w32 ax) (back w32 ay) (back w32 az) (back w32 bx) (back w32 by) (back w32 bz) → ray ≡ rayOf ax ay az bx by bz
+hosts-ray ax ay az bx by bz f g h i j k e =
+    e ∙ simp (toZ-ofZ f, toZ-ofZ g, toZ-ofZ h, toZ-ofZ i, toZ-ofZ j, toZ-ofZ k)
 
 module _ (file : List ℕ) (ray : Ray) where
   pub cast-number-fits : (budget : ℕ) (w : CastAnswer) → Counted file ray budget w → castNumber w < 2 ^ 32

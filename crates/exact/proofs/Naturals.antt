@@ -3,8 +3,8 @@
 -- `pos-inj (ring 2 (λ a b. a ⊗ (b ⊕ b) ≔ # 2 ⊗ a ⊗ b) tt (pos a) (pos b)) : a * (b + b) ≡ 2 * a * b`.
 use mathlib.Core.Path.{_≡_, sym, _∙_, ap, ap₂}
 use mathlib.Core.Logic.{_⊎_, inl, inr}
-use Prim.Native.Nat.{ℕ, zero, suc, _*_, _-_, _^_, _≤_}
-use native.Mathlib.Nat.{mul-comm, mul-sub, mul-right-comm, mul-mul-mul-comm, one-mul, pow-zero, pow-suc}
+use Prim.Native.Nat.{ℕ, zero, suc, _+_, _*_, _-_, _/_, _%_, _^_, _≤_}
+use native.Mathlib.Nat.{mul-comm, mul-sub, mul-right-comm, mul-mul-mul-comm, one-mul, add-zero, div-add-mod', pow-zero, pow-suc}
 use native.Mathlib.Decide.{decLe}
 use native.Mathlib.Omega.{arith}
 
@@ -17,6 +17,10 @@ sub-mul x y k = mul-comm (x - y) k ∙ mul-sub k x y ∙ ap₂ _-_ (mul-comm k x
 -- clamped differences of fractions: from D/t ≤ E/s, the difference (K − E/s)⁺ is at most (K − D/t)⁺, cleared of denominators
 pub clamp : (K s t D E : ℕ) → D * s ≤ E * t → (K * s - E) * t ≤ (K * t - D) * s
 clamp K s t D E h = rw (sub-mul (K * s) E t, sub-mul (K * t) D s) (let e : K * s * t ≡ K * t * s = mul-right-comm K s t in omega arith)
+
+-- a number without a remainder is its quotient's multiple
+pub whole-quotient : (n d : ℕ) → n % d ≡ 0 → n ≡ n / d * d
+whole-quotient n d z = sym (div-add-mod' n d) ∙ ap (λ (k : ℕ). n / d * d + k) z ∙ add-zero (n / d * d)
 
 -- ---- powers
 

@@ -1,7 +1,7 @@
 -- ℤ (`lib.IntN`, with the order of `lib.Signed`) as an ordered ring, and the embedding `pos` of ℕ.
 -- `mul-mono-r h k : (a *ℤ c) ≤ℤ (b *ℤ c)`, from `h : a ≤ℤ b` and `k : pos 0 ≤ℤ c`. What is linear comes from `Linear`; the rest names a
 -- difference that is not negative (`le-by`) and has the identity from the solver of `Ring`. Longer ones: `Certificates`.
-use mathlib.Core.Path.{_≡_, ap, subst}
+use mathlib.Core.Path.{_≡_, sym, ap, subst}
 use mathlib.Core.Logic.{_⊎_, inl, inr}
 use mathlib.Core.Bool.{not}
 use Prim.Native.Nat.{ℕ, suc, _+_, _*_, _-_, _≤_, _<_}
@@ -121,6 +121,9 @@ mul-mono-lt {a} {b} {c} l k =
 -- a positive factor may be taken away
 pub mul-cancel-le : {a b c : ℤ} → pos 0 <ℤ c → (a *ℤ c) ≤ℤ (b *ℤ c) → a ≤ℤ b
 mul-cancel-le {a} {b} k h = elim (le-or-lt a b) [ inl l ↦ l | inr l ↦ clashℤ (mul-mono-lt l k) h ]
+
+pub mul-cancel-eq : {a b c : ℤ} → pos 0 <ℤ c → a *ℤ c ≡ b *ℤ c → a ≡ b
+mul-cancel-eq k e = ≤ℤ-antisymm (mul-cancel-le k (≤ℤ-of-eq e)) (mul-cancel-le k (≤ℤ-of-eq (sym e)))
 
 -- ---- the embedding of ℕ
 

@@ -1,16 +1,16 @@
 -- Tests as facts, and back: `both-true`, `between-true` and the like take a test that is true (or false) to what it says.
 -- `between-true 24 65536 n e : (24 ≤ n) × (n ≤ 65536)`, from `e : between 24 65536 n ≡ true`.
 -- Tests of one pair of natural numbers are in `borrow.Author.Tests` (`leb-true`, `le-leb`, ..).
-use mathlib.Core.Path.{_≡_, refl, sym, ap, _∙_}
+use mathlib.Core.Path.{_≡_, refl, sym, ap, subst, _∙_}
 use mathlib.Core.Logic.{_⊎_, inl, inr}
-use mathlib.Core.Bool.{Bool, true, false, cond, _&&_, and-true, false≢true}
+use mathlib.Core.Bool.{Bool, true, false, not, cond, _&&_, _||_, and-true, false≢true}
 use Prim.Native.Nat.{ℕ, zero, suc, _≤_, _<_}
 use borrow.Author.Tests.{leb-true, le-leb, eqb-true, eq-eqb}
 use lib.Dec.{T, leb, leb·zero, leb·suc-zero, leb·suc-suc}
 use lib.IntN.{ℤ, pos, negsuc, negℤ, natAbs}
 use lib.Signed.{leZ, ltZ, _≤ℤ_, _<ℤ_, leZ-yes, ltZ-yes, ltZ-no, clashℤ}
 use Rattle.exact.specs.Range.{between, betweenℤ, eqℤ, Small}
-use Rattle.exact.proofs.Order.{≤ℤ-of-eq, ≤ℤ-trans, nn-pos, pos-reflect, leZ-no}
+use Rattle.exact.proofs.Order.{≤ℤ-of-eq, ≤ℤ-trans, ≤ℤ-antisymm, <ℤ-le, le-or-lt, nn-pos, pos-reflect, leZ-no}
 use Rattle.exact.proofs.Absolute.{pos-natAbs-nn}
 
 -- ---- any test
@@ -76,6 +76,28 @@ lt-ltZ a b h = is-true (ltZ a b) (h .lt)
 
 pub le-ltZ : (a b : ℤ) → b ≤ℤ a → ltZ a b ≡ false
 le-ltZ a b h = is-false (ltZ a b) (λ e. clashℤ (ltZ-true a b e) h)
+
+-- the three comparisons by one
+pub lt-not-le : (a b : ℤ) → ltZ a b ≡ not (leZ b a)
+lt-not-le a b = elim (le-or-lt b a) [ inl h ↦ rw (le-leZ b a h, le-ltZ a b h) | inr h ↦ rw (lt-leZ b a h, lt-ltZ a b h) ]
+
+pub eq-both : (a b : ℤ) → eqℤ a b ≡ (leZ a b && leZ b a)
+eq-both a b = same-test (eqℤ a b) (leZ a b && leZ b a) one two
+  where
+    one : eqℤ a b ≡ true → (leZ a b && leZ b a) ≡ true
+    one h = let e = eqℤ-true a b h in true-both (le-leZ a b (≤ℤ-of-eq e)) (le-leZ b a (≤ℤ-of-eq (sym e)))
+
+    two : (leZ a b && leZ b a) ≡ true → eqℤ a b ≡ true
+    two h =
+        let p = both-true (leZ a b) (leZ b a) h in
+        subst (λ (z : ℤ). eqℤ a z ≡ true) (≤ℤ-antisymm (leZ-true a b (p .0)) (leZ-true b a (p .1))) (eqℤ-refl a)
+
+pub lt-or-eq : (a b : ℤ) → (ltZ a b || eqℤ a b) ≡ leZ a b
+lt-or-eq a b = rw (lt-not-le a b, eq-both a b) (go (leZ a b) (leZ b a) (λ e. le-leZ a b (<ℤ-le (leZ-false b a e))))
+  where
+    go : (p q : Bool) → (q ≡ false → p ≡ true) → (not q || (p && q)) ≡ p
+    go p true h = and-true p
+    go p false h = sym (h refl)
 
 -- ---- ranges
 

@@ -1,6 +1,6 @@
 use borrow.Author.Needs.{needs}
-use Rattle.cast.proofs.Numbers.{column-number-fits}
-use Rattle.fenalukki.proofs.Host.{hosts-ray, host-column}
+use Rattle.cast.proofs.Numbers.{hosts-ray, column-number-fits}
+use Rattle.fenalukki.proofs.Host.{host-column}
 use Rattle.fenalukki.proofs.fenalukki_column.Statement.{statement}
 use Rattle.fenalukki.proofs.fenalukki_column.Tie as tie
 

@@ -1,6 +1,6 @@
 use borrow.Author.Needs.{needs}
-use Rattle.cast.proofs.Numbers.{hit-number-fits}
-use Rattle.fenalukki.proofs.Host.{hosts-ray, host-hit}
+use Rattle.cast.proofs.Numbers.{hosts-ray, hit-number-fits}
+use Rattle.fenalukki.proofs.Host.{host-hit}
 use Rattle.fenalukki.proofs.fenalukki_first_hit.Statement.{statement}
 use Rattle.fenalukki.proofs.fenalukki_first_hit.Tie as tie
 

@@ -1,6 +1,6 @@
 use borrow.Author.Needs.{needs}
-use Rattle.cast.proofs.Numbers.{cast-number-fits}
-use Rattle.fenalukki.proofs.Host.{hosts-ray, host-cast}
+use Rattle.cast.proofs.Numbers.{hosts-ray, cast-number-fits}
+use Rattle.fenalukki.proofs.Host.{host-cast}
 use Rattle.fenalukki.proofs.fenalukki_full_cast.Statement.{statement}
 use Rattle.fenalukki.proofs.fenalukki_full_cast.Tie as tie
 
