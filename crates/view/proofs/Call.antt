@@ -1,0 +1,167 @@
+-- The viewer's first hit: its verdict (`view-verdict`) is a first hit's on the ray in steps, or 15; so its answer is a first hit's with places as floats
+-- (`view-found`), and demands 2 and 3 of it are a first hit's (`view-promised`).
+use mathlib.Core.Path.{_≡_, refl, sym, ap, _∙_}
+use mathlib.Core.Logic.{_⊎_, inl, inr}
+use mathlib.Core.List.{List, [], _∷_, _++_}
+use mathlib.Core.Bool.{Bool, true, false, cond, _&&_}
+use Prim.Native.Nat.{ℕ, _≤_}
+use native.Mathlib.Omega.{arith}
+use lib.Dec.{lit≤}
+use Rattle.part.specs.Questions.{firstNo}
+use Rattle.part.specs.File.{fileQuestions, checkFile}
+use Rattle.part.specs.declared.Verdict.{Verdict}
+use Rattle.part.specs.declared.Verdict.the-variants.{Yes, No}
+use Rattle.part.specs.declared.Checked.the-variants.{Accepted, Refused}
+use Rattle.part.proofs.Questions.{next, firstNo-append, no-is-not-yes, no-numbered}
+use Rattle.part.proofs.File.{answer-accepted, answer-refused, file-numbered}
+use Rattle.field.specs.declared.Ray.{Ray}
+use Rattle.field.specs.Loading.{rayQuestions}
+use Rattle.field.proofs.Loading.{ray-verdict}
+use Rattle.cast.specs.declared.HitAnswer.{HitAnswer}
+use Rattle.cast.specs.declared.HitAnswer.the-variants as found
+use Rattle.cast.specs.FirstHit.{hitLookedAt}
+use Rattle.cast.specs.Ticks.{rayState}
+use Rattle.cast.specs.Questions.{endsDiffer, hitQuestions}
+use Rattle.cast.specs.Calls.{rayHit, hitAfter, firstHit}
+use Rattle.cast.specs.Demands.{Sound, AloneHit, CountedHit}
+use Rattle.cast.proofs.FirstHit.{Found}
+use Rattle.cast.proofs.Demands.{no-ticks, hit-within, ray-found, hit-alone, hit-counted, hit-sound}
+use Rattle.view.specs.Ray.{whole, endWhole, rayWhole, stepsRay}
+use Rattle.view.specs.Call.{floatQuestions, viewQuestions, viewOf, viewerTicks, viewerFirstHit}
+use Rattle.view.specs.Demands.{inTicks, ExactPlace, CountedView}
+use Rattle.view.specs.declared.ViewRay.{ViewRay}
+use Rattle.view.specs.declared.ViewAnswer.{ViewAnswer}
+use Rattle.view.specs.declared.ViewAnswer.the-variants as view
+use Rattle.view.proofs.Coordinates.{ray-in}
+use Rattle.view.proofs.Places.{in-ticks, exact-places}
+
+-- ---- the verdict
+
+six : (a b c d e f : Bool) → firstNo ((15, a) ∷ (15, b) ∷ (15, c) ∷ (15, d) ∷ (15, e) ∷ (15, f) ∷ []) ≡ cond ((a && b && c) && (d && e && f)) Yes (No 15)
+unfolding firstNo
+six true true true true true true = refl
+six true true true true true false = refl
+six true true true true false f = refl
+six true true true false e f = refl
+six true true false d e f = refl
+six true false c d e f = refl
+six false b c d e f = refl
+
+-- a question after a verdict, and one more
+then : (v : Verdict) (b : Bool) (number : ℕ) (w : Verdict) → next (next v (cond b Yes (No number))) w ≡ next v (cond b w (No number))
+unfolding next
+then Yes true number w = refl
+then Yes false number w = refl
+then (No n) b number w = refl
+
+-- question 13
+abbrev differs : ViewRay → Verdict
+differs ray = cond (endsDiffer (stepsRay ray)) Yes (No 13)
+
+module _ (file : List ℕ) (ray : ViewRay) where
+  view-verdict : firstNo (viewQuestions file ray) ≡ next (firstNo (fileQuestions file)) (cond (rayWhole ray) (differs ray) (No 15))
+  unfolding viewQuestions floatQuestions rayWhole endWhole firstNo
+  view-verdict =
+      firstNo-append (fileQuestions file ++ floatQuestions ray) ((13, endsDiffer (stepsRay ray)) ∷ [])
+      ∙ rw (
+        firstNo-append (fileQuestions file) (floatQuestions ray),
+        six (whole (ray .start .x)) (whole (ray .start .y)) (whole (ray .start .z)) (whole (ray .end .x)) (whole (ray .end .y)) (whole (ray .end .z)),
+      )
+      (then (firstNo (fileQuestions file)) (rayWhole ray) 15 (differs ray))
+
+  hit-verdict : firstNo (hitQuestions file (stepsRay ray)) ≡ next (firstNo (fileQuestions file)) (differs ray)
+  unfolding hitQuestions firstNo
+  hit-verdict =
+      firstNo-append (rayQuestions file (stepsRay ray)) ((13, endsDiffer (stepsRay ray)) ∷ [])
+      ∙ rw (ray-verdict file (stepsRay ray), ray-in ray) (then (firstNo (fileQuestions file)) true 12 (differs ray))
+
+  -- an accepted call is an accepted first hit's
+  hit-yes : firstNo (viewQuestions file ray) ≡ Yes → firstNo (hitQuestions file (stepsRay ray)) ≡ Yes
+  unfolding next
+  hit-yes e = hit-verdict ∙ go (firstNo (fileQuestions file)) (rayWhole ray) (sym view-verdict ∙ e)
+    where
+      go : (v : Verdict) (b : Bool) → next v (cond b (differs ray) (No 15)) ≡ Yes → next v (differs ray) ≡ Yes
+      go Yes true h = h
+      go Yes false h = no-is-not-yes h
+      go (No n) b h = h
+
+  -- a refused one's number
+  refusal : {n : ℕ} → firstNo (viewQuestions file ray) ≡ No n → ((1 ≤ n) × (n ≤ 11)) ⊎ ((n ≡ 13) ⊎ (n ≡ 15))
+  unfolding next
+  refusal {n} e = go (firstNo (fileQuestions file)) refl (rayWhole ray) (endsDiffer (stepsRay ray)) (sym view-verdict ∙ e)
+    where
+      go : (v : Verdict) → firstNo (fileQuestions file) ≡ v → (b d : Bool) → next v (cond b (cond d Yes (No 13)) (No 15)) ≡ No n → ((1 ≤ n) × (n ≤ 11)) ⊎ ((n ≡ 13) ⊎ (n ≡ 15))
+      go Yes f true true h = no-is-not-yes (sym h)
+      go Yes f true false h = inr (inl cc)
+      go Yes f false d h = inr (inr cc)
+      go (No m) f b d h = inl (no-numbered 11 (fileQuestions file) (file-numbered 11 (omega arith) file) (f ∙ h))
+
+  abbrev steps : Ray
+  steps = stepsRay ray
+
+  module _ (budget : ℕ) where
+    -- ---- the answer in ticks
+
+    -- floats that are whole steps: a first hit's
+    pub view-found : rayWhole ray ≡ true → viewerFirstHit file ray budget ≡ viewOf 1024 (firstHit file steps budget)
+    unfolding viewerFirstHit viewerTicks firstHit
+    view-found w = rw (view-verdict, hit-verdict, w)
+
+    -- floats that are not: the file's refusal, or 15
+    pub view-refused : rayWhole ray ≡ false → {n : ℕ} → checkFile file ≡ Refused n → viewerFirstHit file ray budget ≡ view.Refused n
+    unfolding viewerFirstHit viewerTicks hitAfter viewOf checkFile next
+    view-refused w e = rw (view-verdict, w, answer-refused (firstNo (fileQuestions file)) file e)
+
+    pub view-15 : rayWhole ray ≡ false → {n i : ℕ} → checkFile file ≡ Accepted n i → viewerFirstHit file ray budget ≡ view.Refused 15
+    unfolding viewerFirstHit viewerTicks hitAfter viewOf checkFile next
+    view-15 w e = rw (view-verdict, w, answer-accepted (firstNo (fileQuestions file)) file e)
+
+    -- ---- demands 2 and 3, and the exact places
+
+    counted : (a : HitAnswer) → Found (rayState file steps) budget 10 0 0 a → CountedHit file steps budget a → CountedView file steps budget (viewOf 1024 a)
+    unfolding CountedView CountedHit inTicks viewOf
+    counted (found.Hit t s p) h c = c
+    counted (found.Clear p) h c = c
+    counted (found.Spent t p) h c = c
+
+    -- of an answer in ticks
+    abbrev DemandsMet : HitAnswer → Type 0
+    DemandsMet a = AloneHit file steps a × (CountedView file steps budget (viewOf 1024 a) × Sound file steps (hitLookedAt 1024 a))
+
+    found-demands : firstNo (hitQuestions file steps) ≡ Yes → DemandsMet (rayHit file steps budget)
+    unfolding firstHit hitAfter
+    found-demands e =
+        let is : firstHit file steps budget ≡ rayHit file steps budget = ap (λ (v : Verdict). hitAfter v file steps budget) e in (
+          rw (← is) (hit-alone file steps budget),
+          (counted (rayHit file steps budget) (ray-found file steps e budget) (rw (← is) (hit-counted file steps budget)), rw (← is) (hit-sound file steps budget)),
+        )
+
+    refused-demands : {n : ℕ} → firstNo (viewQuestions file ray) ≡ No n → DemandsMet (found.Refused n)
+    unfolding AloneHit CountedView viewOf hitLookedAt
+    refused-demands e = (tt, (refusal e, no-ticks file steps))
+
+    ticks-demands : DemandsMet (viewerTicks file ray budget)
+    unfolding viewerTicks hitAfter
+    ticks-demands = go (firstNo (viewQuestions file ray)) refl
+      where
+        go : (v : Verdict) → firstNo (viewQuestions file ray) ≡ v → DemandsMet (hitAfter v file steps budget)
+        go Yes e = found-demands (hit-yes e)
+        go (No n) e = refused-demands e
+
+    -- what the call promises of an answer
+    abbrev pub ViewPromised : ViewAnswer → Type 0
+    ViewPromised a =
+        (a ≡ viewerFirstHit file ray budget)
+        × ((inTicks 1024 a ≡ viewerTicks file ray budget)
+        × (ExactPlace 1024 a
+        × (AloneHit file steps (inTicks 1024 a)
+        × (CountedView file steps budget a × Sound file steps (hitLookedAt 1024 (inTicks 1024 a))))))
+
+    pub view-promised : {a : ViewAnswer} → a ≡ viewerFirstHit file ray budget → ViewPromised a
+    unfolding viewerFirstHit
+    view-promised e =
+        let d = ticks-demands in
+        let f = viewerTicks file ray budget in
+        let near = hit-within file steps f (d .0) in
+        let back = in-ticks 10 (lit≤ tt) f near in
+        (e, rw (e, back) (refl, (exact-places 10 (lit≤ tt) f near, (d .0, (d .1 .0, d .1 .1)))))

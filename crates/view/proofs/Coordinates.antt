@@ -1,0 +1,83 @@
+-- The six coordinates in steps: what one float's answer says of question 15 and of the coordinate, and that all are in question 12's range.
+use mathlib.Core.Path.{_≡_, refl, sym, ap, _∙_}
+use mathlib.Core.Logic.{_⊎_, inl, inr}
+use mathlib.Core.Bool.{true, false}
+use Prim.Native.Nat.{ℕ}
+use native.Mathlib.Omega.{arith}
+use lib.IntN.{ℤ}
+use lib.Ieee.{Float}
+use mir.Syntax.{w32}
+use mir.Val.{SFits}
+use Rattle.exact.proofs.Machine.{back, known}
+use Rattle.exact.proofs.Tests.{cond-is, true-both}
+use Rattle.part.specs.Nodes.{coordinate}
+use Rattle.field.specs.declared.Position.{Position}
+use Rattle.field.specs.declared.Ray.{Ray}
+use Rattle.field.specs.Loading.{positionInRange, rayInRange}
+use Rattle.view.specs.Steps.{stepsOf}
+use Rattle.view.specs.Ray.{isWhole, orZero, whole, endWhole, coordinateOf, positionOf, stepsRay, endSteps, rayWhole, raySteps}
+use Rattle.view.specs.declared.Steps.{Steps}
+use Rattle.view.specs.declared.Steps.the-variants.{Whole, Refused}
+use Rattle.view.specs.declared.ViewEnd.{ViewEnd}
+use Rattle.view.specs.declared.ViewRay.{ViewRay}
+use Rattle.view.specs.declared.EndSteps.the-variants as end
+use Rattle.view.specs.declared.EndSteps.the-variants.{At}
+use Rattle.view.specs.declared.RaySteps.the-variants as ray
+use Rattle.view.specs.declared.RaySteps.the-variants.{Along}
+use Rattle.view.proofs.Whole.{exactly}
+
+pub read-whole : (x : Float) {n : ℤ} → SFits w32 n → stepsOf x ≡ Whole n → (whole x ≡ true) × (back w32 n ≡ coordinateOf x)
+unfolding whole coordinateOf
+read-whole x f h = (ap isWhole h, known w32 f (sym (ap orZero h)))
+
+pub not-whole : (x : Float) → stepsOf x ≡ Refused → whole x ≡ false
+unfolding whole
+not-whole x h = ap isWhole h
+
+-- an end and a ray, found or not
+
+end-apart : {X : Type 0} {p : Position} → At p ≡ end.Refused → X
+end-apart e = let z : _≡_ {A = ℕ} 0 1 = cc in absurd (omega arith)
+
+ray-apart : {X : Type 0} {r : Ray} → Along r ≡ ray.Refused → X
+ray-apart e = let z : _≡_ {A = ℕ} 0 1 = cc in absurd (omega arith)
+
+module _ (e : ViewEnd) where
+  end-is : ((endWhole e ≡ true) × (endSteps e ≡ At (positionOf e))) ⊎ ((endWhole e ≡ false) × (endSteps e ≡ end.Refused))
+  unfolding endSteps
+  end-is = cond-is (endWhole e) (At (positionOf e)) end.Refused
+
+  pub end-whole : {p : Position} → endSteps e ≡ At p → (endWhole e ≡ true) × (p ≡ positionOf e)
+  end-whole h = elim end-is [ inl k ↦ (k .0, cc) | inr k ↦ end-apart (sym h ∙ k .1) ]
+
+  pub end-not-whole : endSteps e ≡ end.Refused → endWhole e ≡ false
+  end-not-whole h = elim end-is [ inl k ↦ end-apart (sym (k .1) ∙ h) | inr k ↦ k .0 ]
+
+module _ (v : ViewRay) where
+  ray-is : ((rayWhole v ≡ true) × (raySteps v ≡ Along (stepsRay v))) ⊎ ((rayWhole v ≡ false) × (raySteps v ≡ ray.Refused))
+  unfolding raySteps
+  ray-is = cond-is (rayWhole v) (Along (stepsRay v)) ray.Refused
+
+  pub ray-whole : {r : Ray} → raySteps v ≡ Along r → (rayWhole v ≡ true) × (r ≡ stepsRay v)
+  ray-whole h = elim ray-is [ inl k ↦ (k .0, cc) | inr k ↦ ray-apart (sym h ∙ k .1) ]
+
+  pub ray-not-whole : raySteps v ≡ ray.Refused → rayWhole v ≡ false
+  ray-not-whole h = elim ray-is [ inl k ↦ ray-apart (sym (k .1) ∙ h) | inr k ↦ k .0 ]
+
+-- question 12 of the coordinates
+
+coordinate-in : (x : Float) → coordinate (coordinateOf x) ≡ true
+unfolding coordinateOf coordinate
+coordinate-in x = go (stepsOf x) (λ n h. exactly x n .0 h .1)
+  where
+    go : (r : Steps) → ((n : ℤ) → r ≡ Whole n → coordinate n ≡ true) → coordinate (orZero r) ≡ true
+    go (Whole n) f = f n refl
+    go Refused f = refl
+
+position-in : (e : ViewEnd) → positionInRange (positionOf e) ≡ true
+unfolding positionInRange positionOf
+position-in e = true-both (true-both (coordinate-in (e .x)) (coordinate-in (e .y))) (coordinate-in (e .z))
+
+pub ray-in : (v : ViewRay) → rayInRange (stepsRay v) ≡ true
+unfolding rayInRange stepsRay
+ray-in v = true-both (position-in (v .start)) (position-in (v .end))

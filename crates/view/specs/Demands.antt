@@ -1,0 +1,34 @@
+-- What the viewer's first hit promises beside its equation: exact places, and demands 2 and 3 of its answer in ticks.
+use mathlib.Core.Path.{_≡_}
+use mathlib.Core.Logic.{_⊎_}
+use mathlib.Core.List.{List}
+use Prim.Native.Nat.{ℕ, _≤_}
+use lib.IntN.{pos}
+use Rattle.field.specs.declared.Ray.{Ray}
+use Rattle.cast.specs.declared.HitAnswer.{HitAnswer}
+use Rattle.cast.specs.declared.HitAnswer.the-variants as found
+use Rattle.cast.specs.Demands.{CountedHit}
+use Rattle.view.specs.Floats.{Equals, tickAt}
+use Rattle.view.specs.declared.ViewAnswer.{ViewAnswer}
+use Rattle.view.specs.declared.ViewAnswer.the-variants as view
+
+-- the answer in ticks: a first hit's
+unfoldable pub inTicks : ℕ → ViewAnswer → HitAnswer
+inTicks ticks (view.Refused number) = found.Refused number
+inTicks ticks (view.Hit entry mark probes) = found.Hit (tickAt ticks entry) mark probes
+inTicks ticks (view.Clear probes) = found.Clear probes
+inTicks ticks (view.Spent place probes) = found.Spent (tickAt ticks place) probes
+
+-- "entry as a float equal to h/1024 exactly", and "spent with the tick reached over 1024"
+unfoldable pub ExactPlace : ℕ → ViewAnswer → Type 0
+ExactPlace ticks (view.Refused number) = Unit {0}
+ExactPlace ticks (view.Hit entry mark probes) = Equals entry (pos (tickAt ticks entry)) ticks
+ExactPlace ticks (view.Clear probes) = Unit {0}
+ExactPlace ticks (view.Spent place probes) = Equals place (pos (tickAt ticks place)) ticks
+
+-- the probes are a first hit's. A refusal is 1 to 11, 13 or 15.
+unfoldable pub CountedView : List ℕ → Ray → ℕ → ViewAnswer → Type 0
+CountedView file ray budget (view.Refused number) = ((1 ≤ number) × (number ≤ 11)) ⊎ (number ≡ 13) ⊎ (number ≡ 15)
+CountedView file ray budget (view.Hit entry mark probes) = CountedHit file ray budget (inTicks 1024 (view.Hit entry mark probes))
+CountedView file ray budget (view.Clear probes) = CountedHit file ray budget (inTicks 1024 (view.Clear probes))
+CountedView file ray budget (view.Spent place probes) = CountedHit file ray budget (inTicks 1024 (view.Spent place probes))

@@ -1,0 +1,5 @@
+pub mod Floats
+pub mod Steps
+pub mod Ray
+pub mod Call
+pub mod Demands
