@@ -1,0 +1,92 @@
+-- What each call promises is what `Performed` or `Viewed` says of it. And laws of a call and the totals after it.
+use mathlib.Core.Path.{_≡_, refl, ap, sym, _∙_}
+use mathlib.Core.List.{List}
+use Prim.Native.Nat.{ℕ}
+use lib.ListN.{length}
+use Rattle.part.specs.Questions.{Question, firstNo}
+use Rattle.part.specs.declared.Verdict.the-variants.{No}
+use Rattle.field.specs.declared.Ray.{Ray}
+use Rattle.cast.specs.declared.CastAnswer.{CastAnswer}
+use Rattle.cast.specs.declared.HitAnswer.{HitAnswer}
+use Rattle.cast.specs.declared.ColumnAnswer.{ColumnAnswer}
+use Rattle.cast.specs.Questions.{hitQuestions, bufferQuestions}
+use Rattle.cast.specs.Calls.{castAfter, fullCast, hitAfter, firstHit, columnAfter, columnAnswer}
+use Rattle.cast.proofs.Calls.{CastPromised, HitPromised, ColumnPromised}
+use Rattle.view.specs.declared.ViewAnswer.{ViewAnswer}
+use Rattle.view.specs.Call.{viewQuestions, viewOf, viewerTicks, viewerFirstHit}
+use Rattle.view.proofs.Call.{ViewPromised}
+use Rattle.totals.specs.declared.Totals.{Totals}
+use Rattle.totals.specs.declared.Call.{Call}
+use Rattle.totals.specs.declared.Call.the-variants as call
+use Rattle.totals.specs.declared.Answer.{Answer}
+use Rattle.totals.specs.declared.Answer.the-variants as answer
+use Rattle.totals.specs.declared.Tally.the-variants.{Refused}
+use Rattle.totals.specs.declared.ViewCall.{ViewCall}
+use Rattle.totals.specs.Counts.{afterTally, castTally, hitTally, columnTally, tallyOf, viewTally}
+use Rattle.totals.specs.Calls.{answerTo, bytesLeft, Demanded, Performed, totalsAfter, viewTo, Viewed, totalsAfterView}
+
+module _ (file : List ℕ) (ray : Ray) (lent : List ℕ) {c : Call} where
+  pub cast-performed : (budget : ℕ) (w : CastAnswer) (after : List ℕ)
+      → c ≡ call.FullCast ray budget → CastPromised file ray budget lent w after → Performed file c lent (answer.FullCast w) after
+  unfolding answerTo bytesLeft Demanded
+  cast-performed budget w after is (a, (bytes, (alone, (counted, sound)))) =
+      rw is (record { answer = ap answer.FullCast a; bytes = bytes; demands = rw (← a) (alone, counted, sound) })
+
+  pub hit-performed : (budget : ℕ) (f : HitAnswer)
+      → c ≡ call.FirstHit ray budget → HitPromised file ray budget f → Performed file c lent (answer.FirstHit f) lent
+  unfolding answerTo bytesLeft Demanded
+  hit-performed budget f is (a, (alone, (counted, sound))) =
+      rw is (record { answer = ap answer.FirstHit a; bytes = refl; demands = rw (← a) (alone, counted, sound) })
+
+  pub column-performed : (w : ColumnAnswer) (after : List ℕ)
+      → c ≡ call.Column ray → ColumnPromised file ray lent w after → Performed file c lent (answer.Column w) after
+  unfolding answerTo bytesLeft Demanded
+  column-performed w after is (a, (bytes, (alone, (counted, sound)))) =
+      rw is (record { answer = ap answer.Column a; bytes = bytes; demands = rw (← a) (alone, counted, sound) })
+
+module _ (file : List ℕ) (c : ViewCall) {r : ViewAnswer} where
+  pub viewed : ViewPromised file (c .ray) (c .budget) r → Viewed file c r
+  unfolding viewTo
+  viewed (a, (ticks, (exact, (alone, (counted, sound))))) =
+      record { answer = a; ticks = ticks; exact = exact; alone = alone; counted = counted; sound = sound }
+
+-- the totals that an answer's tally makes are those after the call
+pub totals-after : {file : List ℕ} {c : Call} {lent : List ℕ} {r : Answer} {after : List ℕ} (t : Totals) {t′ : Totals}
+    → Performed file c lent r after → t′ ≡ afterTally t (tallyOf r) → t′ ≡ totalsAfter file c (length lent) t
+unfolding totalsAfter
+totals-after t p e = rw (← p .answer) e
+
+pub totals-after-view : {file : List ℕ} {c : ViewCall} {r : ViewAnswer} (t : Totals) {t′ : Totals}
+    → Viewed file c r → t′ ≡ afterTally t (viewTally r) → t′ ≡ totalsAfterView file c t
+unfolding totalsAfterView
+totals-after-view t v e = rw (← v .answer) e
+
+-- ---- laws
+
+-- two runs that differ only in the totals, t and u, get equal answers and equal bytes
+pub same-answers : (file : List ℕ) (c : Call) (lent : List ℕ) (t u : Totals) {t′ u′ : Totals} {r r′ : Answer} {after after′ : List ℕ}
+    → Performed file c lent r after × (t′ ≡ totalsAfter file c (length lent) t)
+    → Performed file c lent r′ after′ × (u′ ≡ totalsAfter file c (length lent) u) → (r ≡ r′) × (after ≡ after′)
+same-answers file c lent t u (p, _) (q, _) = (p .answer ∙ sym (q .answer), p .bytes ∙ sym (q .bytes))
+
+pub same-views : (file : List ℕ) (c : ViewCall) (t u : Totals) {t′ u′ : Totals} {r r′ : ViewAnswer}
+    → Viewed file c r × (t′ ≡ totalsAfterView file c t) → Viewed file c r′ × (u′ ≡ totalsAfterView file c u) → r ≡ r′
+same-views file c t u (v, _) (w, _) = v .answer ∙ sym (w .answer)
+
+-- the questions of a call
+abbrev pub questionsOf : List ℕ → Call → ℕ → List Question
+questionsOf file (call.FullCast ray budget) room = bufferQuestions file ray 1024 room
+questionsOf file (call.FirstHit ray budget) room = hitQuestions file ray
+questionsOf file (call.Column ray) room = bufferQuestions file ray 128 room
+
+module _ (file : List ℕ) {n : ℕ} (t : Totals) where
+  -- a call that its questions refuse counts as a refusal
+  pub refused-counts : (c : Call) (room : ℕ) → firstNo (questionsOf file c room) ≡ No n → totalsAfter file c room t ≡ afterTally t Refused
+  unfolding totalsAfter answerTo tallyOf castTally hitTally columnTally fullCast castAfter firstHit hitAfter columnAnswer columnAfter
+  refused-counts (call.FullCast ray budget) room e = rw e
+  refused-counts (call.FirstHit ray budget) room e = rw e
+  refused-counts (call.Column ray) room e = rw e
+
+  pub refused-view-counts : (c : ViewCall) → firstNo (viewQuestions file (c .ray)) ≡ No n → totalsAfterView file c t ≡ afterTally t Refused
+  unfolding totalsAfterView viewTo viewTally viewerFirstHit viewerTicks viewOf hitAfter
+  refused-view-counts c e = rw e

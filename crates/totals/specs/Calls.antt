@@ -1,0 +1,76 @@
+-- Full cast, first hit and column as one call, and the viewer's first hit beside it; each with the running totals afterwards (document 01, "Calls").
+use mathlib.Core.Path.{_≡_}
+use mathlib.Core.List.{List}
+use Prim.Native.Nat.{ℕ}
+use lib.ListN.{length}
+use Rattle.cast.specs.Halving.{castLookedAt}
+use Rattle.cast.specs.FirstHit.{hitLookedAt}
+use Rattle.cast.specs.Column.{columnLookedAt}
+use Rattle.cast.specs.Calls.{fullCast, marksLeft, firstHit, columnAnswer, bitsLeft}
+use Rattle.cast.specs.Demands.{Sound, Alone, AloneBits, AloneHit, Counted, CountedHit, CountedColumn}
+use Rattle.view.specs.declared.ViewAnswer.{ViewAnswer}
+use Rattle.view.specs.Ray.{stepsRay}
+use Rattle.view.specs.Call.{viewerTicks, viewerFirstHit}
+use Rattle.view.specs.Demands.{inTicks, ExactPlace, CountedView}
+use Rattle.totals.specs.declared.Totals.{Totals}
+use Rattle.totals.specs.declared.Call.{Call}
+use Rattle.totals.specs.declared.Call.the-variants as call
+use Rattle.totals.specs.declared.Answer.{Answer}
+use Rattle.totals.specs.declared.Answer.the-variants as answer
+use Rattle.totals.specs.declared.ViewCall.{ViewCall}
+use Rattle.totals.specs.Counts.{afterTally, tallyOf, viewTally}
+
+-- ---- full cast, first hit and column
+
+-- the answer, with a buffer of so many bytes
+unfoldable pub answerTo : List ℕ → Call → ℕ → Answer
+answerTo file (call.FullCast ray budget) room = answer.FullCast (fullCast file ray budget room)
+answerTo file (call.FirstHit ray budget) room = answer.FirstHit (firstHit file ray budget)
+answerTo file (call.Column ray) room = answer.Column (columnAnswer file ray room)
+
+-- the lent buffer afterwards; a first hit has none and leaves it as it was
+unfoldable pub bytesLeft : List ℕ → Call → List ℕ → List ℕ
+bytesLeft file (call.FullCast ray budget) lent = marksLeft file ray budget lent
+bytesLeft file (call.FirstHit ray budget) lent = lent
+bytesLeft file (call.Column ray) lent = bitsLeft file ray lent
+
+-- demands 2 and 3 of the answer, and of the bytes afterwards in a buffer of so many
+unfoldable pub Demanded : List ℕ → Call → ℕ → List ℕ → Type 0
+Demanded file (call.FullCast ray budget) room after =
+    let a = fullCast file ray budget room in
+    Alone file ray (castLookedAt 1024 a) after × Counted file ray budget a × Sound file ray (castLookedAt 1024 a)
+Demanded file (call.FirstHit ray budget) room after =
+    let a = firstHit file ray budget in
+    AloneHit file ray a × CountedHit file ray budget a × Sound file ray (hitLookedAt 1024 a)
+Demanded file (call.Column ray) room after =
+    let a = columnAnswer file ray room in
+    AloneBits file ray (columnLookedAt 1024 a) after × CountedColumn file ray a × Sound file ray (columnLookedAt 1024 a)
+
+-- a call that is lent no totals: its answer, and the bytes afterwards in the buffer that was lent
+pub record Performed (file : List ℕ) (call : Call) (lent : List ℕ) (r : Answer) (after : List ℕ) : Type 0 where
+  pub answer : r ≡ answerTo file call (length lent)
+  pub bytes : after ≡ bytesLeft file call lent
+  pub demands : Demanded file call (length lent) after
+
+-- the totals after it
+unfoldable pub totalsAfter : List ℕ → Call → ℕ → Totals → Totals
+totalsAfter file call room totals = afterTally totals (tallyOf (answerTo file call room))
+
+-- ---- viewer's first hit
+
+-- the answer
+unfoldable pub viewTo : List ℕ → ViewCall → ViewAnswer
+viewTo file call = viewerFirstHit file (call .ray) (call .budget)
+
+-- a call that is lent no totals: its answer, and what `view` promises of it
+pub record Viewed (file : List ℕ) (call : ViewCall) (r : ViewAnswer) : Type 0 where
+  pub answer : r ≡ viewTo file call
+  pub ticks : inTicks 1024 r ≡ viewerTicks file (call .ray) (call .budget)
+  pub exact : ExactPlace 1024 r
+  pub alone : AloneHit file (stepsRay (call .ray)) (inTicks 1024 r)
+  pub counted : CountedView file (stepsRay (call .ray)) (call .budget) r
+  pub sound : Sound file (stepsRay (call .ray)) (hitLookedAt 1024 (inTicks 1024 r))
+
+-- the totals after it
+unfoldable pub totalsAfterView : List ℕ → ViewCall → Totals → Totals
+totalsAfterView file call totals = afterTally totals (viewTally (viewTo file call))

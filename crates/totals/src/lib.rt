@@ -1,0 +1,234 @@
+// The running totals: a record by value and its update, the casting calls that hand it on by value, and two thin functions that are
+// lent it (document 01, "Calls").
+
+use cast::CastAnswer;
+use cast::ColumnAnswer;
+use cast::HitAnswer;
+use cast::column;
+use cast::first_hit;
+use cast::full_cast;
+use field::Ray;
+use view::ViewAnswer;
+use view::ViewRay;
+use view::viewer_first_hit;
+ghost use mathlib.Core.Path.{_≡_};
+ghost use Prim.Native.Nat.{_+_};
+ghost use lib.ListN.{length};
+ghost use Rattle.totals.specs.Counts.{capped, afterTally, castTally, hitTally, columnTally, viewTally, tallyOf};
+ghost use Rattle.totals.specs.Calls.{Performed, totalsAfter, Viewed, totalsAfterView};
+
+// The running totals.
+pub struct Totals {
+    pub casts: u32,
+    pub probes: u32,
+    pub refusals: u32,
+}
+
+// What a call adds to them: a cast with its probes, or a refusal.
+pub enum Tally {
+    Cast(u32),
+    Refused,
+}
+
+// A call on a ray in whole steps.
+pub enum Call {
+    FullCast { ray: Ray, budget: u32 },
+    FirstHit { ray: Ray, budget: u32 },
+    Column { ray: Ray },
+}
+
+// Its answer.
+pub enum Answer {
+    FullCast(CastAnswer),
+    FirstHit(HitAnswer),
+    Column(ColumnAnswer),
+}
+
+// A call of the viewer's first hit.
+pub struct ViewCall {
+    pub ray: ViewRay,
+    pub budget: u32,
+}
+
+// An answer, and the totals after its call.
+pub struct CountedAnswer {
+    pub answer: Answer,
+    pub totals: Totals,
+}
+
+pub struct CountedViewAnswer {
+    pub answer: ViewAnswer,
+    pub totals: Totals,
+}
+
+// ---- the update
+
+// A sum that stays at the ceiling.
+fn capped_sum(total: u32, more: u32) -> u32
+    ensures { λ r. ⌜ r ≡ capped (total + more) ⌝ }
+{
+    if total <= 4294967295 - more {
+        total + more
+    } else {
+        4294967295
+    }
+}
+
+// The totals after a call.
+pub fn count(totals: Totals, tally: Tally) -> Totals
+    ensures { λ r. ⌜ r ≡ afterTally totals tally ⌝ }
+{
+    match tally {
+        Tally::Cast(probes) => Totals {
+            casts: capped_sum(totals.casts, 1),
+            probes: capped_sum(totals.probes, probes),
+            refusals: totals.refusals,
+        },
+        Tally::Refused => Totals {
+            casts: totals.casts,
+            probes: totals.probes,
+            refusals: capped_sum(totals.refusals, 1),
+        },
+    }
+}
+
+// What an answer adds.
+fn cast_tally(answer: CastAnswer) -> Tally
+    ensures { λ r. ⌜ r ≡ castTally answer ⌝ }
+{
+    match answer {
+        CastAnswer::Refused(_) => Tally::Refused,
+        CastAnswer::Complete { probes } => Tally::Cast(probes),
+        CastAnswer::Spent { tick: _, probes } => Tally::Cast(probes),
+    }
+}
+
+fn hit_tally(answer: HitAnswer) -> Tally
+    ensures { λ r. ⌜ r ≡ hitTally answer ⌝ }
+{
+    match answer {
+        HitAnswer::Refused(_) => Tally::Refused,
+        HitAnswer::Hit {
+            tick: _,
+            mark: _,
+            probes,
+        } => Tally::Cast(probes),
+        HitAnswer::Clear { probes } => Tally::Cast(probes),
+        HitAnswer::Spent { tick: _, probes } => Tally::Cast(probes),
+    }
+}
+
+fn column_tally(answer: ColumnAnswer) -> Tally
+    ensures { λ r. ⌜ r ≡ columnTally answer ⌝ }
+{
+    match answer {
+        ColumnAnswer::Refused(_) => Tally::Refused,
+        ColumnAnswer::Complete { probes } => Tally::Cast(probes),
+    }
+}
+
+fn view_tally(answer: ViewAnswer) -> Tally
+    ensures { λ r. ⌜ r ≡ viewTally answer ⌝ }
+{
+    match answer {
+        ViewAnswer::Refused(_) => Tally::Refused,
+        ViewAnswer::Hit {
+            entry: _,
+            mark: _,
+            probes,
+        } => Tally::Cast(probes),
+        ViewAnswer::Clear { probes } => Tally::Cast(probes),
+        ViewAnswer::Spent { place: _, probes } => Tally::Cast(probes),
+    }
+}
+
+fn tally_of(answer: Answer) -> Tally
+    ensures { λ r. ⌜ r ≡ tallyOf answer ⌝ }
+{
+    match answer {
+        Answer::FullCast(a) => cast_tally(a),
+        Answer::FirstHit(a) => hit_tally(a),
+        Answer::Column(a) => column_tally(a),
+    }
+}
+
+// The totals after an answer.
+fn count_answer(totals: Totals, answer: Answer) -> Totals
+    ensures { λ r. ⌜ r ≡ afterTally totals (tallyOf answer) ⌝ }
+{
+    count(totals, tally_of(answer))
+}
+
+fn count_view(totals: Totals, answer: ViewAnswer) -> Totals
+    ensures { λ r. ⌜ r ≡ afterTally totals (viewTally answer) ⌝ }
+{
+    count(totals, view_tally(answer))
+}
+
+// ---- the calls, lent no totals
+
+// Full cast, first hit or column.
+pub fn perform(file: &[u8], call: Call, buffer: &mut [u8]) -> Answer
+    ensures { λ r. ⌜ Performed (now (file .entry)) call (now (buffer .entry)) r (now (buffer .exit)) ⌝ }
+{
+    match call {
+        Call::FullCast { ray, budget } => Answer::FullCast(full_cast(file, ray, budget, buffer)),
+        Call::FirstHit { ray, budget } => Answer::FirstHit(first_hit(file, ray, budget)),
+        Call::Column { ray } => Answer::Column(column(file, ray, buffer)),
+    }
+}
+
+// Viewer's first hit.
+pub fn view(file: &[u8], call: ViewCall) -> ViewAnswer
+    ensures { λ r. ⌜ Viewed (now (file .entry)) call r ⌝ }
+{
+    viewer_first_hit(file, call.ray, call.budget)
+}
+
+// ---- the calls, handed the totals by value
+
+// Full cast, first hit or column, and the totals after it.
+pub fn perform_by_value(file: &[u8], call: Call, buffer: &mut [u8], totals: Totals) -> CountedAnswer
+    ensures performed { λ r. ⌜ Performed (now (file .entry)) call (now (buffer .entry)) (r .answer) (now (buffer .exit)) ⌝ }
+    ensures counted { λ r. ⌜ r .totals ≡ totalsAfter (now (file .entry)) call (length (now (buffer .entry))) totals ⌝ }
+{
+    let answer = perform(file, call, buffer);
+    CountedAnswer {
+        answer: answer,
+        totals: count_answer(totals, answer),
+    }
+}
+
+// Viewer's first hit, and the totals after it.
+pub fn view_by_value(file: &[u8], call: ViewCall, totals: Totals) -> CountedViewAnswer
+    ensures viewed { λ r. ⌜ Viewed (now (file .entry)) call (r .answer) ⌝ }
+    ensures counted { λ r. ⌜ r .totals ≡ totalsAfterView (now (file .entry)) call totals ⌝ }
+{
+    let answer = view(file, call);
+    CountedViewAnswer {
+        answer: answer,
+        totals: count_view(totals, answer),
+    }
+}
+
+// ---- the calls, lent the totals
+
+// Full cast, first hit or column; the lent totals are then those after it.
+pub fn perform_counted(file: &[u8], call: Call, buffer: &mut [u8], totals: &mut Totals) -> Answer
+    ensures performed { λ r. ⌜ Performed (now (file .entry)) call (now (buffer .entry)) r (now (buffer .exit)) ⌝ }
+    ensures counted { λ _. ⌜ now (totals .exit) ≡ totalsAfter (now (file .entry)) call (length (now (buffer .entry))) (now (totals .entry)) ⌝ }
+{
+    let answer = perform(file, call, buffer);
+    *totals = count_answer(*totals, answer);
+    answer
+}
+
+// Viewer's first hit; the lent totals are then those after it.
+pub fn view_counted(file: &[u8], call: ViewCall, totals: &mut Totals) -> ViewAnswer
+    ensures viewed { λ r. ⌜ Viewed (now (file .entry)) call r ⌝ }
+    ensures counted { λ _. ⌜ now (totals .exit) ≡ totalsAfterView (now (file .entry)) call (now (totals .entry)) ⌝ }
+{
+    let answer = view(file, call);
+    *totals = count_view(*totals, answer);
+    answer
+}
