@@ -1,0 +1,38 @@
+-- A performed call's number fits its width, and what an entry hands back is what the call and the totals say.
+use mathlib.Core.Path.{_≡_, ap, _∙_}
+use mathlib.Core.List.{List}
+use Prim.Native.Nat.{ℕ}
+use lib.ListN.{length}
+use Rattle.cast.proofs.Numbers.{cast-number-fits, hit-number-fits, column-number-fits}
+use Rattle.view.specs.declared.ViewRay.{ViewRay}
+use Rattle.view.specs.declared.ViewAnswer.{ViewAnswer}
+use Rattle.view.specs.Call.{viewerFirstHit}
+use Rattle.totals.specs.declared.Totals.{Totals}
+use Rattle.totals.specs.declared.ViewCall.{ViewCall}
+use Rattle.totals.specs.declared.Call.{Call}
+use Rattle.totals.specs.declared.Call.the-variants as call
+use Rattle.totals.specs.declared.Answer.{Answer}
+use Rattle.totals.specs.Calls.{answerTo, bytesLeft, Demanded, Performed, totalsAfter, viewTo, Viewed, totalsAfterView}
+use Rattle.testhost.specs.Entries.{viewNumber, numberOf, NumberFits, totalsIn, totalsPut}
+
+pub number-fits : (file : List ℕ) (c : Call) (lent : List ℕ) (r : Answer) (after : List ℕ) → Performed file c lent r after → NumberFits r
+unfolding NumberFits answerTo Demanded
+number-fits file (call.FullCast ray budget) lent r after p = rw (p .answer) (cast-number-fits file ray budget _ (p .demands .1))
+number-fits file (call.FirstHit ray budget) lent r after p = rw (p .answer) (hit-number-fits file ray budget _ (p .demands .0) (p .demands .1))
+number-fits file (call.Column ray) lent r after p = rw (p .answer) (column-number-fits file ray _ (p .demands .1))
+
+abbrev viewCall : ViewRay → ℕ → ViewCall
+viewCall ray budget = record { ray = ray; budget = budget }
+
+-- an entry's call c is the contract's c′, and t the totals that it was handed in l
+module _ (file : List ℕ) {t u : Totals} (l : List ℕ) {l′ : List ℕ} {n : ℕ} (in-is : t ≡ totalsIn l) (put : l′ ≡ totalsPut u l) where
+  pub called : {c c′ : Call} (lent after : List ℕ) (a : Answer) → c ≡ c′ → Performed file c lent a after → u ≡ totalsAfter file c (length lent) t → n ≡ numberOf a
+      → (n ≡ numberOf (answerTo file c′ (length lent)))
+      × ((after ≡ bytesLeft file c′ lent) × (l′ ≡ totalsPut (totalsAfter file c′ (length lent) (totalsIn l)) l))
+  called lent after a same p counted number =
+      rw (← same, ← in-is, ← counted) (number ∙ ap numberOf (p .answer), (p .bytes, put))
+
+  pub viewed : {ray ray′ : ViewRay} (budget : ℕ) (a : ViewAnswer) → ray ≡ ray′ → Viewed file (viewCall ray budget) a → u ≡ totalsAfterView file (viewCall ray budget) t → n ≡ viewNumber a
+      → (n ≡ viewNumber (viewerFirstHit file ray′ budget)) × (l′ ≡ totalsPut (totalsAfterView file (viewCall ray′ budget) (totalsIn l)) l)
+  unfolding viewTo
+  viewed budget a same v counted number = rw (← same, ← in-is, ← counted) (number ∙ ap viewNumber (v .answer), put)

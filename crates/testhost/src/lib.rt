@@ -1,0 +1,187 @@
+// Entries for the reference's tests alone: the viewer's first hit, and the calls that are handed the running totals. The slicing
+// host links `fenalukki`, which has none of them.
+
+use cast::cast_number;
+use cast::column_number;
+use cast::hit_number;
+use cast::ray_of;
+use field::Ray;
+use totals::Answer;
+use totals::Call;
+use totals::Totals;
+use totals::ViewCall;
+use totals::perform_by_value;
+use totals::view_by_value;
+use view::ViewAnswer;
+use view::ViewEnd;
+use view::ViewRay;
+use view::viewer_first_hit;
+ghost use mathlib.Core.Path.{_≡_};
+ghost use lib.ListN.{length};
+ghost use Rattle.cast.specs.Numbers.{rayOf};
+ghost use Rattle.view.specs.Call.{viewerFirstHit};
+ghost use Rattle.totals.specs.Calls.{answerTo, bytesLeft, totalsAfter, totalsAfterView};
+ghost use Rattle.testhost.specs.Entries.{viewRayOf, viewNumber, placeIn, numberOf, NumberFits, callOf, totalsIn, totalsPut};
+
+fn view_ray_of(ax: f32, ay: f32, az: f32, bx: f32, by: f32, bz: f32) -> ViewRay
+    ensures { λ r. ⌜ r ≡ viewRayOf ax ay az bx by bz ⌝ }
+{
+    ViewRay {
+        start: ViewEnd {
+            x: ax,
+            y: ay,
+            z: az,
+        },
+        end: ViewEnd {
+            x: bx,
+            y: by,
+            z: bz,
+        },
+    }
+}
+
+fn view_number(answer: ViewAnswer) -> u64
+    ensures { λ r. ⌜ r ≡ viewNumber answer ⌝ }
+{
+    match answer {
+        ViewAnswer::Refused(number) => number as u64,
+        ViewAnswer::Hit {
+            entry: _,
+            mark,
+            probes,
+        } => mark as u64 * 4294967296 + probes as u64,
+        ViewAnswer::Clear { probes } => 3 * 4294967296 + probes as u64,
+        ViewAnswer::Spent { place: _, probes } => 4 * 4294967296 + probes as u64,
+    }
+}
+
+fn place_in(answer: ViewAnswer) -> f32
+    ensures { λ r. ⌜ r ≡ placeIn answer ⌝ }
+{
+    match answer {
+        ViewAnswer::Refused(_) => 0.0,
+        ViewAnswer::Hit {
+            entry,
+            mark: _,
+            probes: _,
+        } => entry,
+        ViewAnswer::Clear { probes: _ } => 0.0,
+        ViewAnswer::Spent { place, probes: _ } => place,
+    }
+}
+
+fn number_of(answer: Answer) -> u64
+    requires { ⌜ NumberFits answer ⌝ }
+    ensures { λ r. ⌜ r ≡ numberOf answer ⌝ }
+{
+    match answer {
+        Answer::FullCast(a) => cast_number(a) as u64,
+        Answer::FirstHit(a) => hit_number(a),
+        Answer::Column(a) => column_number(a) as u64,
+    }
+}
+
+fn call_of(which: u32, ray: Ray, budget: u32) -> Call
+    ensures { λ r. ⌜ r ≡ callOf which ray budget ⌝ }
+{
+    if which == 0 {
+        return Call::FullCast {
+            ray: ray,
+            budget: budget,
+        };
+    }
+    if which == 1 {
+        return Call::FirstHit {
+            ray: ray,
+            budget: budget,
+        };
+    }
+    Call::Column { ray: ray }
+}
+
+fn totals_in(from: &[u32; 3]) -> Totals
+    ensures { λ r. ⌜ r ≡ totalsIn (now (from .entry)) ⌝ }
+{
+    Totals {
+        casts: from[0],
+        probes: from[1],
+        refusals: from[2],
+    }
+}
+
+fn put_totals(totals: Totals, to: &mut [u32; 3])
+    ensures { λ _. ⌜ now (to .exit) ≡ totalsPut totals (now (to .entry)) ⌝ }
+{
+    to[0] = totals.casts;
+    to[1] = totals.probes;
+    to[2] = totals.refusals;
+}
+
+// Full cast, first hit or column, with the totals read from three numbers and stored there; its number.
+#[no_mangle]
+pub extern "C" fn testhost_call(
+    file: &[u8],
+    which: u32,
+    ax: i32,
+    ay: i32,
+    az: i32,
+    bx: i32,
+    by: i32,
+    bz: i32,
+    budget: u32,
+    buffer: &mut [u8],
+    totals: &mut [u32; 3],
+) -> u64
+    ensures answer { λ r. ⌜ r ≡ numberOf (answerTo (now (file .entry)) (callOf which (rayOf ax ay az bx by bz) budget) (length (now (buffer .entry)))) ⌝ }
+    ensures bytes { λ _. ⌜ now (buffer .exit) ≡ bytesLeft (now (file .entry)) (callOf which (rayOf ax ay az bx by bz) budget) (now (buffer .entry)) ⌝ }
+    ensures counted { λ _. ⌜ now (totals .exit) ≡ totalsPut (totalsAfter (now (file .entry)) (callOf which (rayOf ax ay az bx by bz) budget) (length (now (buffer .entry))) (totalsIn (now (totals .entry)))) (now (totals .entry)) ⌝ }
+{
+    let call = call_of(which, ray_of(ax, ay, az, bx, by, bz), budget);
+    let counted = perform_by_value(file, call, buffer, totals_in(totals));
+    put_totals(counted.totals, totals);
+    let answer = counted.answer;
+    number_of(answer)
+}
+
+// Viewer's first hit, with the totals read from three numbers and stored there; its number.
+#[no_mangle]
+pub extern "C" fn testhost_view(
+    file: &[u8],
+    ax: f32,
+    ay: f32,
+    az: f32,
+    bx: f32,
+    by: f32,
+    bz: f32,
+    budget: u32,
+    totals: &mut [u32; 3],
+) -> u64
+    ensures answer { λ r. ⌜ r ≡ viewNumber (viewerFirstHit (now (file .entry)) (viewRayOf ax ay az bx by bz) budget) ⌝ }
+    ensures counted { λ _. ⌜ now (totals .exit) ≡ totalsPut (totalsAfterView (now (file .entry)) (record { ray = viewRayOf ax ay az bx by bz; budget = budget }) (totalsIn (now (totals .entry)))) (now (totals .entry)) ⌝ }
+{
+    let call = ViewCall {
+        ray: view_ray_of(ax, ay, az, bx, by, bz),
+        budget: budget,
+    };
+    let counted = view_by_value(file, call, totals_in(totals));
+    put_totals(counted.totals, totals);
+    let answer = counted.answer;
+    view_number(answer)
+}
+
+// Viewer's first hit; its entry or place.
+#[no_mangle]
+pub extern "C" fn testhost_place(
+    file: &[u8],
+    ax: f32,
+    ay: f32,
+    az: f32,
+    bx: f32,
+    by: f32,
+    bz: f32,
+    budget: u32,
+) -> f32
+    ensures { λ r. ⌜ r ≡ placeIn (viewerFirstHit (now (file .entry)) (viewRayOf ax ay az bx by bz) budget) ⌝ }
+{
+    place_in(viewer_first_hit(file, view_ray_of(ax, ay, az, bx, by, bz), budget))
+}
