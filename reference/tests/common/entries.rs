@@ -51,7 +51,7 @@ extern "C" {
 }
 
 /// The file's pointer, null where there are no bytes.
-fn start(file: &[u8]) -> *const u8 {
+pub fn start(file: &[u8]) -> *const u8 {
     if file.is_empty() {
         null()
     } else {
@@ -60,7 +60,7 @@ fn start(file: &[u8]) -> *const u8 {
 }
 
 /// The buffer's pointer, null where there are no bytes.
-fn start_mut(buffer: &mut [u8]) -> *mut u8 {
+pub fn start_mut(buffer: &mut [u8]) -> *mut u8 {
     if buffer.is_empty() {
         null_mut()
     } else {
@@ -88,6 +88,7 @@ pub fn first_hit(file: &[u8], ray: &Ray, budget: u32) -> u64 {
 }
 
 /// The number of a column.
+#[allow(dead_code)]
 pub fn column(file: &[u8], ray: &Ray, column: &mut [u8]) -> u32 {
     let ([ax, ay, az], [bx, by, bz]) = (ray.a, ray.b);
     let (at, len) = (start(file), file.len());

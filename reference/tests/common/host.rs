@@ -4,20 +4,12 @@
 
 #[path = "entries.rs"]
 pub mod entries;
+#[path = "guards.rs"]
+mod guards;
 
+use guards::in_guards;
 use reference::cast::{self, Column, FirstHit, FullCast};
 use reference::field::Ray;
-
-/// Guard bytes before the buffer, and as many after it.
-const GUARD: usize = 64;
-
-/// What `call` answers, handed a buffer of `room` bytes, and the bytes it
-/// leaves, those of the guards included. No byte is a mark beforehand.
-fn in_guards<T>(room: usize, call: impl FnOnce(&mut [u8]) -> T) -> (T, Vec<u8>) {
-    let mut bytes: Vec<u8> = (0..GUARD + room + GUARD).map(|i| 0x80 | i as u8).collect();
-    let answer = call(&mut bytes[GUARD..GUARD + room]);
-    (answer, bytes)
-}
 
 /// A full cast.
 pub fn full_cast(file: &[u8], ray: &Ray, budget: u32, room: usize) -> FullCast {
