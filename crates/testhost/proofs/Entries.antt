@@ -26,13 +26,15 @@ viewCall ray budget = record { ray = ray; budget = budget }
 
 -- an entry's call c is the contract's c′, and t the totals that it was handed in l
 module _ (file : List ℕ) {t u : Totals} (l : List ℕ) {l′ : List ℕ} {n : ℕ} (in-is : t ≡ totalsIn l) (put : l′ ≡ totalsPut u l) where
-  pub called : {c c′ : Call} (lent after : List ℕ) (a : Answer) → c ≡ c′ → Performed file c lent a after → u ≡ totalsAfter file c (length lent) t → n ≡ numberOf a
+  pub called : {c c′ : Call} (lent after : List ℕ) (a : Answer) → c ≡ c′
+      → Performed file c lent a after → u ≡ totalsAfter file c (length lent) t → n ≡ numberOf a
       → (n ≡ numberOf (answerTo file c′ (length lent)))
       × ((after ≡ bytesLeft file c′ lent) × (l′ ≡ totalsPut (totalsAfter file c′ (length lent) (totalsIn l)) l))
   called lent after a same p counted number =
       rw (← same, ← in-is, ← counted) (number ∙ ap numberOf (p .answer), (p .bytes, put))
 
-  pub viewed : {ray ray′ : ViewRay} (budget : ℕ) (a : ViewAnswer) → ray ≡ ray′ → Viewed file (viewCall ray budget) a → u ≡ totalsAfterView file (viewCall ray budget) t → n ≡ viewNumber a
+  pub viewed : {ray ray′ : ViewRay} (budget : ℕ) (a : ViewAnswer) → ray ≡ ray′
+      → Viewed file (viewCall ray budget) a → u ≡ totalsAfterView file (viewCall ray budget) t → n ≡ viewNumber a
       → (n ≡ viewNumber (viewerFirstHit file ray′ budget)) × (l′ ≡ totalsPut (totalsAfterView file (viewCall ray′ budget) (totalsIn l)) l)
   unfolding viewTo
   viewed budget a same v counted number = rw (← same, ← in-is, ← counted) (number ∙ ap viewNumber (v .answer), put)

@@ -86,11 +86,14 @@ module _ (file : List ℕ) (ray : ViewRay) where
       go (No n) b h = h
 
   -- a refused one's number
-  refusal : {n : ℕ} → firstNo (viewQuestions file ray) ≡ No n → ((1 ≤ n) × (n ≤ 11)) ⊎ ((n ≡ 13) ⊎ (n ≡ 15))
+  abbrev Number : ℕ → Type 0
+  Number n = ((1 ≤ n) × (n ≤ 11)) ⊎ ((n ≡ 13) ⊎ (n ≡ 15))
+
+  refusal : {n : ℕ} → firstNo (viewQuestions file ray) ≡ No n → Number n
   unfolding next
   refusal {n} e = go (firstNo (fileQuestions file)) refl (rayWhole ray) (endsDiffer (stepsRay ray)) (sym view-verdict ∙ e)
     where
-      go : (v : Verdict) → firstNo (fileQuestions file) ≡ v → (b d : Bool) → next v (cond b (cond d Yes (No 13)) (No 15)) ≡ No n → ((1 ≤ n) × (n ≤ 11)) ⊎ ((n ≡ 13) ⊎ (n ≡ 15))
+      go : (v : Verdict) → firstNo (fileQuestions file) ≡ v → (b d : Bool) → next v (cond b (cond d Yes (No 13)) (No 15)) ≡ No n → Number n
       go Yes f true true h = no-is-not-yes (sym h)
       go Yes f true false h = inr (inl cc)
       go Yes f false d h = inr (inr cc)

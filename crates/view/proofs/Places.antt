@@ -38,7 +38,8 @@ quotient (fin false m e) (fin false n d) a b B v w =
     let p : m * up e ≡ a * down e = sym (mul-one (m * up e)) ∙ v .1 in
     let q : n * up d ≡ b * down d = sym (mul-one (n * up d)) ∙ w .1 in
     let U : 0 < n * up d = subst (λ (z : ℕ). 0 < z) (sym q) (mul-pos B (down-pos d)) in
-    ap (λ (t : Bool). cond t (cond (eqb m 0) nan (inf false)) (round binary32 false (m * up e * down d) (n * up d * down e))) (ne-eqb n 0 (λ (z : n ≡ 0). lt-irrefl 0 (subst (λ (k : ℕ). 0 < k) z (first-pos n (up d) U))))
+    let N : n ≡ 0 → ⊥ = λ z. lt-irrefl 0 (subst (λ (k : ℕ). 0 < k) z (first-pos n (up d) U)) in
+    ap (λ (t : Bool). cond t (cond (eqb m 0) nan (inf false)) (round binary32 false (m * up e * down d) (n * up d * down e))) (ne-eqb n 0 N)
     ∙ round-same binary32 false (m * up e * down d) (n * up d * down e) a b (mul-pos U (down-pos e)) B
     (ap (λ (z : ℕ). z * down d * b) p ∙ mul-assoc (a * down e) (down d) b ∙ ap (λ (z : ℕ). a * down e * z) (mul-comm (down d) b ∙ sym q)
     ∙ mul-assoc a (down e) (n * up d) ∙ ap (λ (z : ℕ). a * z) (mul-comm (down e) (n * up d)))

@@ -15,7 +15,8 @@ same c =
     let b = c .before .before .before .before in
     let a = b .before .before .before .before .args in
     b .call-of .ensures ∙ ap (λ (ray : Ray). callOf (a .which) ray (a .budget))
-    (hosts-ray (a .ax) (a .ay) (a .az) (a .bx) (a .by) (a .bz) (search needs) (search needs) (search needs) (search needs) (search needs) (search needs) (b .before .ray-of .ensures))
+    (hosts-ray (a .ax) (a .ay) (a .az) (a .bx) (a .by) (a .bz)
+    (search needs) (search needs) (search needs) (search needs) (search needs) (search needs) (b .before .ray-of .ensures))
 
 pub testhost-call-spec : {M : Type 1} → statement M
 testhost-call-spec =
@@ -30,4 +31,5 @@ testhost-call-spec =
     (λ c. search needs)
     (λ c.
     let b = c .before .before .before .before .before in
-    called _ _ (b .before .totals-in .ensures) (c .before .put-totals .ensures) _ _ _ (same b) (b .perform-by-value .ensures .0) (b .perform-by-value .ensures .1) (c .number-of .ensures)))
+    called _ _ (b .before .totals-in .ensures) (c .before .put-totals .ensures) _ _ _ (same b)
+    (b .perform-by-value .ensures .0) (b .perform-by-value .ensures .1) (c .number-of .ensures)))

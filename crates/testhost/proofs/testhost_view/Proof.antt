@@ -14,4 +14,5 @@ testhost-view-spec =
     (λ c κs. search needs)
     (λ c.
     let b = c .before .before .before in
-    viewed _ _ (b .before .totals-in .ensures) (c .before .put-totals .ensures) _ _ (b .before .before .before .view-ray-of .ensures) (b .view-by-value .ensures .0) (b .view-by-value .ensures .1) (c .view-number .ensures)))
+    viewed _ _ (b .before .totals-in .ensures) (c .before .put-totals .ensures) _ _
+    (b .before .before .before .view-ray-of .ensures) (b .view-by-value .ensures .0) (b .view-by-value .ensures .1) (c .view-number .ensures)))
