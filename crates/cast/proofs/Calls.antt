@@ -27,13 +27,13 @@ use Rattle.cast.specs.declared.ColumnAnswer.the-variants as column
 use Rattle.cast.specs.Ticks.{ticks, spanState, rayState}
 use Rattle.cast.specs.Search.{stateIn, Searchable, Halvable}
 use Rattle.cast.specs.Questions.{endsDiffer, hitQuestions, bufferQuestions, checkHit, checkBuffer}
-use Rattle.cast.specs.Halving.{probeCount, spanMarks, walk, castLookedAt, handed}
-use Rattle.cast.specs.FirstHit.{hit, hitLookedAt}
-use Rattle.cast.specs.Column.{markBit, packed, columnLookedAt}
+use Rattle.cast.specs.Halving.{probeCount, spanMarks, walk, handed}
+use Rattle.cast.specs.FirstHit.{hit}
+use Rattle.cast.specs.Column.{markBit, packed}
 use Rattle.cast.specs.Calls.{rayMarks, rayWalk, castAfter, fullCast, marksAfter, marksLeft, hitAfter, firstHit, columnAfter, columnAnswer, bitsAfter, bitsLeft}
-use Rattle.cast.specs.Demands.{Sound, Alone, AloneBits, AloneHit, Counted, CountedHit, CountedColumn}
+use Rattle.cast.specs.Demands.{CastDemands, HitDemands, ColumnDemands}
 use Rattle.cast.proofs.Questions.{asked-before}
-use Rattle.cast.proofs.Demands.{cast-alone, cast-counted, cast-sound, hit-alone, hit-counted, hit-sound, column-alone, column-counted, column-sound}
+use Rattle.cast.proofs.Demands.{cast-demands, hit-demands, column-demands}
 
 abbrev search : ℕ → ℕ → ℕ → Search
 search n i budget = record { nodes = n; iso = i; ticks = 1024; budget = budget }
@@ -80,15 +80,10 @@ module _ (file : List ℕ) (ray : Ray) where
 module _ (file : List ℕ) (ray : Ray) (budget : ℕ) (lent : List ℕ) where
   -- what the call promises of an answer and of the buffer
   abbrev pub CastPromised : CastAnswer → List ℕ → Type 0
-  CastPromised w l =
-      (w ≡ fullCast file ray budget (length lent))
-      × ((l ≡ marksLeft file ray budget lent)
-      × (Alone file ray (castLookedAt 1024 w) l
-      × (Counted file ray budget w × Sound file ray (castLookedAt 1024 w))))
+  CastPromised w l = (w ≡ fullCast file ray budget (length lent)) × ((l ≡ marksLeft file ray budget lent) × CastDemands file ray budget w l)
 
   cast-promised : (w : CastAnswer) (l : List ℕ) → w ≡ fullCast file ray budget (length lent) → l ≡ marksLeft file ray budget lent → CastPromised w l
-  cast-promised w l e f =
-      (e, (f, (rw (e, f) (cast-alone file ray budget lent), (rw e (cast-counted file ray budget (length lent)), rw e (cast-sound file ray budget (length lent))))))
+  cast-promised w l e f = (e, (f, rw (e, f) (cast-demands file ray budget lent)))
 
   pub cast-refused : {n : ℕ} → checkBuffer file ray 1024 (length lent) ≡ Refused n → CastPromised (cast.Refused n) lent
   unfolding checkBuffer fullCast castAfter marksLeft marksAfter
@@ -110,11 +105,10 @@ module _ (file : List ℕ) (ray : Ray) (budget : ℕ) (lent : List ℕ) where
 module _ (file : List ℕ) (ray : Ray) (budget : ℕ) where
   -- what the call promises of an answer
   abbrev pub HitPromised : HitAnswer → Type 0
-  HitPromised f =
-      (f ≡ firstHit file ray budget) × (AloneHit file ray f × (CountedHit file ray budget f × Sound file ray (hitLookedAt 1024 f)))
+  HitPromised f = (f ≡ firstHit file ray budget) × HitDemands file ray budget f
 
   hit-promised : (f : HitAnswer) → f ≡ firstHit file ray budget → HitPromised f
-  hit-promised f e = (e, (rw e (hit-alone file ray budget), (rw e (hit-counted file ray budget), rw e (hit-sound file ray budget))))
+  hit-promised f e = (e, rw e (hit-demands file ray budget))
 
   pub hit-refused : {n : ℕ} → checkHit file ray ≡ Refused n → HitPromised (found.Refused n)
   unfolding checkHit firstHit hitAfter
@@ -131,14 +125,10 @@ module _ (file : List ℕ) (ray : Ray) (budget : ℕ) where
 module _ (file : List ℕ) (ray : Ray) (lent : List ℕ) where
   -- what the call promises of an answer and of the buffer
   abbrev pub ColumnPromised : ColumnAnswer → List ℕ → Type 0
-  ColumnPromised w l =
-      (w ≡ columnAnswer file ray (length lent))
-      × ((l ≡ bitsLeft file ray lent)
-      × (AloneBits file ray (columnLookedAt 1024 w) l
-      × (CountedColumn file ray w × Sound file ray (columnLookedAt 1024 w))))
+  ColumnPromised w l = (w ≡ columnAnswer file ray (length lent)) × ((l ≡ bitsLeft file ray lent) × ColumnDemands file ray w l)
 
   column-promised : (w : ColumnAnswer) (l : List ℕ) → w ≡ columnAnswer file ray (length lent) → l ≡ bitsLeft file ray lent → ColumnPromised w l
-  column-promised w l e f = (e, (f, (rw (e, f) (column-alone file ray lent), (rw e (column-counted file ray (length lent)), rw e (column-sound file ray (length lent))))))
+  column-promised w l e f = (e, (f, rw (e, f) (column-demands file ray lent)))
 
   pub column-refused : {n : ℕ} → checkBuffer file ray 128 (length lent) ≡ Refused n → ColumnPromised (column.Refused n) lent
   unfolding checkBuffer columnAnswer columnAfter bitsLeft bitsAfter

@@ -1,6 +1,5 @@
--- Demands 2 and 3 on the calls' definitions: each looked-at tick is marked as if judged alone (`cast-alone`, `hit-alone`, `column-alone`), the probes are
--- counted as document 01 says and refusals have its numbers (`cast-counted`, `hit-counted`, `column-counted`), and at every place of every looked-at tick
--- the mark holds of the exact field (`cast-sound`, `hit-sound`, `column-sound`).
+-- Demands 2 and 3 on the calls' definitions (`cast-demands`, `hit-demands`, `column-demands`): each looked-at tick is marked as if judged alone, the probes
+-- are counted as document 01 says and refusals have its numbers, and at every place of every looked-at tick the mark holds of the exact field.
 use mathlib.Core.Path.{_≡_, refl, sym, ap, _∙_}
 use mathlib.Core.List.{List, [], _∷_, _++_, map}
 use Prim.Native.Nat.{ℕ, _+_, _-_, _/_, _%_, _^_, _≤_}
@@ -30,7 +29,7 @@ use Rattle.cast.specs.Column.{markBit, packed, columnLookedAt}
 use Rattle.cast.specs.Ticks.{rayState, markOf}
 use Rattle.cast.specs.Questions.{endsDiffer, hitQuestions, bufferQuestions}
 use Rattle.cast.specs.Calls.{rayProbes, rayMarks, rayWalk, rayHit, castAfter, fullCast, marksAfter, marksLeft, hitAfter, firstHit, columnAfter, columnAnswer, bitsAfter, bitsLeft}
-use Rattle.cast.specs.Demands.{Sound, Alone, AloneBits, Empty, AloneHit, Counted, CountedHit, CountedColumn}
+use Rattle.cast.specs.Demands.{Sound, Alone, AloneBits, Empty, AloneHit, Counted, CountedHit, CountedColumn, CastDemands, HitDemands, ColumnDemands}
 use Rattle.cast.proofs.Halving.{Walked, walked, looked-within, count-below, length-marks}
 use Rattle.cast.proofs.FirstHit.{Found, hits}
 use Rattle.cast.proofs.Bits.{length-packed, column-bit}
@@ -64,23 +63,23 @@ module _ (file : List ℕ) (ray : Ray) where
   by-verdict Yes looked tree zero = sound (tree refl) (looked Yes)
   by-verdict (No n) looked tree zero = rw (zero n) no-ticks
 
-  pub cast-sound : (budget room : ℕ) → Sound file ray (castLookedAt 1024 (fullCast file ray budget room))
+  cast-sound : (budget room : ℕ) → Sound file ray (castLookedAt 1024 (fullCast file ray budget room))
   unfolding fullCast castAfter castLookedAt
   cast-sound budget room =
       by-verdict (firstNo (bufferQuestions file ray 1024 room)) (λ v. castLookedAt 1024 (castAfter v file ray budget)) (buffer-tree 1024 room) (λ n. refl)
 
-  pub hit-sound : (budget : ℕ) → Sound file ray (hitLookedAt 1024 (firstHit file ray budget))
+  hit-sound : (budget : ℕ) → Sound file ray (hitLookedAt 1024 (firstHit file ray budget))
   unfolding firstHit hitAfter hitLookedAt
   hit-sound budget = by-verdict (firstNo (hitQuestions file ray)) (λ v. hitLookedAt 1024 (hitAfter v file ray budget)) hit-tree (λ n. refl)
 
-  pub column-sound : (room : ℕ) → Sound file ray (columnLookedAt 1024 (columnAnswer file ray room))
+  column-sound : (room : ℕ) → Sound file ray (columnLookedAt 1024 (columnAnswer file ray room))
   unfolding columnAnswer columnAfter columnLookedAt
   column-sound room =
       by-verdict (firstNo (bufferQuestions file ray 128 room)) (λ v. columnLookedAt 1024 (columnAfter v file ray)) (buffer-tree 128 room) (λ n. refl)
 
   -- ---- demand 2: the marks
 
-  pub cast-alone : (budget : ℕ) (lent : List ℕ) → Alone file ray (castLookedAt 1024 (fullCast file ray budget (length lent))) (marksLeft file ray budget lent)
+  cast-alone : (budget : ℕ) (lent : List ℕ) → Alone file ray (castLookedAt 1024 (fullCast file ray budget (length lent))) (marksLeft file ray budget lent)
   unfolding fullCast castAfter castLookedAt marksLeft marksAfter handed Alone
   cast-alone budget lent = go (firstNo (bufferQuestions file ray 1024 (length lent))) refl
     where
@@ -98,7 +97,7 @@ module _ (file : List ℕ) (ray : Ray) where
           ∙ ray-marks-at file ray (buffer-tree 1024 (length lent) e) t 3 (omega (arith, few))
       go (No n) e t h = absurd (omega arith)
 
-  pub column-alone : (lent : List ℕ) → AloneBits file ray (columnLookedAt 1024 (columnAnswer file ray (length lent))) (bitsLeft file ray lent)
+  column-alone : (lent : List ℕ) → AloneBits file ray (columnLookedAt 1024 (columnAnswer file ray (length lent))) (bitsLeft file ray lent)
   unfolding columnAnswer columnAfter columnLookedAt bitsLeft bitsAfter AloneBits
   column-alone lent = go (firstNo (bufferQuestions file ray 128 (length lent))) refl
     where
@@ -132,7 +131,7 @@ module _ (file : List ℕ) (ray : Ray) where
   at-most : rayProbes file ray ≤ 2047
   at-most = omega (arith, count-below (rayState file ray) 10 0)
 
-  pub cast-counted : (budget room : ℕ) → Counted file ray budget (fullCast file ray budget room)
+  cast-counted : (budget room : ℕ) → Counted file ray budget (fullCast file ray budget room)
   unfolding fullCast castAfter Counted
   cast-counted budget room = go (firstNo (bufferQuestions file ray 1024 room)) refl
     where
@@ -144,7 +143,7 @@ module _ (file : List ℕ) (ray : Ray) where
       go Yes e = by-answer (rayWalk file ray budget) (walked (rayState file ray) budget 10 0 0 (omega arith))
       go (No n) e = buffer-refusal 1024 room e
 
-  pub column-counted : (room : ℕ) → CountedColumn file ray (columnAnswer file ray room)
+  column-counted : (room : ℕ) → CountedColumn file ray (columnAnswer file ray room)
   unfolding columnAnswer columnAfter CountedColumn
   column-counted room = go (firstNo (bufferQuestions file ray 128 room)) refl
     where
@@ -157,7 +156,7 @@ module _ (file : List ℕ) (ray : Ray) where
   pub ray-found : firstNo (hitQuestions file ray) ≡ Yes → (budget : ℕ) → Found (rayState file ray) budget 10 0 0 (rayHit file ray budget)
   ray-found e budget = hits (rayState file ray) budget (ray-nested file ray (hit-tree e)) 10 0 0 (omega arith)
 
-  pub hit-counted : (budget : ℕ) → CountedHit file ray budget (firstHit file ray budget)
+  hit-counted : (budget : ℕ) → CountedHit file ray budget (firstHit file ray budget)
   unfolding firstHit hitAfter CountedHit
   hit-counted budget = go (firstNo (hitQuestions file ray)) refl
     where
@@ -170,7 +169,7 @@ module _ (file : List ℕ) (ray : Ray) where
       go Yes e = by-answer (rayHit file ray budget) (ray-found e budget)
       go (No n) e = hit-refusal e
 
-  pub hit-alone : (budget : ℕ) → AloneHit file ray (firstHit file ray budget)
+  hit-alone : (budget : ℕ) → AloneHit file ray (firstHit file ray budget)
   unfolding firstHit hitAfter AloneHit Empty
   hit-alone budget = go (firstNo (hitQuestions file ray)) refl
     where
@@ -192,3 +191,15 @@ module _ (file : List ℕ) (ray : Ray) where
   hit-within (found.Hit t s p) (before, is, some, empty) = omega arith
   hit-within (found.Clear p) alone = omega arith
   hit-within (found.Spent t p) (before, empty) = omega arith
+
+  -- ---- together
+
+  pub cast-demands : (budget : ℕ) (lent : List ℕ) → CastDemands file ray budget (fullCast file ray budget (length lent)) (marksLeft file ray budget lent)
+  cast-demands budget lent =
+      record { alone = cast-alone budget lent; counted = cast-counted budget (length lent); sound = cast-sound budget (length lent) }
+
+  pub hit-demands : (budget : ℕ) → HitDemands file ray budget (firstHit file ray budget)
+  hit-demands budget = record { alone = hit-alone budget; counted = hit-counted budget; sound = hit-sound budget }
+
+  pub column-demands : (lent : List ℕ) → ColumnDemands file ray (columnAnswer file ray (length lent)) (bitsLeft file ray lent)
+  column-demands lent = record { alone = column-alone lent; counted = column-counted (length lent); sound = column-sound (length lent) }

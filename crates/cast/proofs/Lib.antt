@@ -6,5 +6,4 @@ pub mod Ticks
 pub mod Demands
 pub mod Span
 pub mod Calls
-pub mod Numbers
 pub mod Cases

@@ -17,7 +17,9 @@ use Rattle.cast.specs.declared.HitAnswer.the-variants as found
 use Rattle.cast.specs.declared.ColumnAnswer.{ColumnAnswer}
 use Rattle.cast.specs.declared.ColumnAnswer.the-variants as column
 use Rattle.cast.specs.Ticks.{markOf}
-use Rattle.cast.specs.Column.{markBit}
+use Rattle.cast.specs.Halving.{castLookedAt}
+use Rattle.cast.specs.FirstHit.{hitLookedAt}
+use Rattle.cast.specs.Column.{markBit, columnLookedAt}
 use Rattle.cast.specs.Calls.{rayProbes}
 
 -- Demand 3: "this holds at every place, whole or fractional, of every tick looked at", the first `limit` ones
@@ -63,3 +65,20 @@ CountedHit file ray budget (found.Spent tick probes) = (probes ≡ budget) × (b
 unfoldable pub CountedColumn : List ℕ → Ray → ColumnAnswer → Type 0
 CountedColumn file ray (column.Refused number) = (1 ≤ number) × (number ≤ 14)
 CountedColumn file ray (column.Complete probes) = (probes ≡ rayProbes file ray) × (rayProbes file ray ≤ 2047)
+
+-- ---- demands 2 and 3 of a call's answer, and of the bytes afterwards in the buffer that was lent
+
+pub record CastDemands (file : List ℕ) (ray : Ray) (budget : ℕ) (answer : CastAnswer) (after : List ℕ) : Type 0 where
+  pub alone : Alone file ray (castLookedAt 1024 answer) after
+  pub counted : Counted file ray budget answer
+  pub sound : Sound file ray (castLookedAt 1024 answer)
+
+pub record HitDemands (file : List ℕ) (ray : Ray) (budget : ℕ) (answer : HitAnswer) : Type 0 where
+  pub alone : AloneHit file ray answer
+  pub counted : CountedHit file ray budget answer
+  pub sound : Sound file ray (hitLookedAt 1024 answer)
+
+pub record ColumnDemands (file : List ℕ) (ray : Ray) (answer : ColumnAnswer) (after : List ℕ) : Type 0 where
+  pub alone : AloneBits file ray (columnLookedAt 1024 answer) after
+  pub counted : CountedColumn file ray answer
+  pub sound : Sound file ray (columnLookedAt 1024 answer)

@@ -5,5 +5,4 @@ pub mod Ticks
 pub mod Search
 pub mod Questions
 pub mod Calls
-pub mod Numbers
 pub mod Demands

@@ -10,18 +10,17 @@ use field::span_state;
 use part::Checked;
 ghost use mathlib.Core.Path.{_≡_};
 ghost use mathlib.Core.List.{_++_, map};
-ghost use Prim.Native.Nat.{_+_, _*_, _-_, _^_, _≤_, _<_};
+ghost use Prim.Native.Nat.{_+_, _*_, _-_, _≤_};
 ghost use lib.ListN.{length, take, drop, replicate};
 ghost use lib.Seq.{sets};
 ghost use Rattle.field.specs.Loading.{loadedRay};
 ghost use Rattle.cast.specs.Halving.{probeCount, spanMarks, walk, castLookedAt, castProbes, handed};
-ghost use Rattle.cast.specs.FirstHit.{hit, hitLookedAt};
-ghost use Rattle.cast.specs.Column.{markBit, byteAt, packed, columnLookedAt};
+ghost use Rattle.cast.specs.FirstHit.{hit};
+ghost use Rattle.cast.specs.Column.{markBit, byteAt, packed};
 ghost use Rattle.cast.specs.Search.{Searchable, Halvable, stateIn};
 ghost use Rattle.cast.specs.Questions.{samePosition, endsDiffer, alsoAsked, checkHit, checkBuffer};
 ghost use Rattle.cast.specs.Calls.{fullCast, marksLeft, firstHit, columnAnswer, bitsLeft};
-ghost use Rattle.cast.specs.Numbers.{rayOf, castNumber, hitNumber, columnNumber};
-ghost use Rattle.cast.specs.Demands.{Sound, Alone, AloneBits, AloneHit, Counted, CountedHit, CountedColumn};
+ghost use Rattle.cast.specs.Demands.{CastDemands, HitDemands, ColumnDemands};
 
 // What a full cast answers: the refusal number; the probes; or the tick reached and the probes.
 pub enum CastAnswer {
@@ -96,9 +95,8 @@ fn load_buffer(file: &[u8], ray: Ray, need: usize, room: usize, out: &mut [i64; 
     ensures answer { λ r. ⌜ r ≡ checkBuffer (now (file .entry)) ray need room ⌝ }
     ensures numbers { λ _. ⌜ now (out .exit) ≡ loadedRay (now (file .entry)) ray (now (out .entry)) ⌝ }
 {
-    let answer = load_ray(file, ray, out);
-    let differ = ends_differ(ray);
-    also_ask(also_ask(answer, 13, differ), 14, need <= room)
+    let answer = load_hit(file, ray, out);
+    also_ask(answer, 14, need <= room)
 }
 
 // ---- the search
@@ -296,9 +294,7 @@ fn cast_column(out: &mut [u8], prepared: &[i64], s: Search) -> u32
 pub fn full_cast(file: &[u8], ray: Ray, budget: u32, marks: &mut [u8]) -> CastAnswer
     ensures answer { λ r. ⌜ r ≡ fullCast (now (file .entry)) ray budget (length (now (marks .entry))) ⌝ }
     ensures bytes { λ _. ⌜ now (marks .exit) ≡ marksLeft (now (file .entry)) ray budget (now (marks .entry)) ⌝ }
-    ensures alone { λ r. ⌜ Alone (now (file .entry)) ray (castLookedAt 1024 r) (now (marks .exit)) ⌝ }
-    ensures counted { λ r. ⌜ Counted (now (file .entry)) ray budget r ⌝ }
-    ensures sound { λ r. ⌜ Sound (now (file .entry)) ray (castLookedAt 1024 r) ⌝ }
+    ensures demands { λ r. ⌜ CastDemands (now (file .entry)) ray budget r (now (marks .exit)) ⌝ }
 {
     let mut prepared = [0i64; 2556];
     let checked = load_buffer(file, ray, 1024, marks.len(), &mut prepared);
@@ -319,9 +315,7 @@ pub fn full_cast(file: &[u8], ray: Ray, budget: u32, marks: &mut [u8]) -> CastAn
 // First hit: the first tick that is not empty.
 pub fn first_hit(file: &[u8], ray: Ray, budget: u32) -> HitAnswer
     ensures answer { λ r. ⌜ r ≡ firstHit (now (file .entry)) ray budget ⌝ }
-    ensures alone { λ r. ⌜ AloneHit (now (file .entry)) ray r ⌝ }
-    ensures counted { λ r. ⌜ CountedHit (now (file .entry)) ray budget r ⌝ }
-    ensures sound { λ r. ⌜ Sound (now (file .entry)) ray (hitLookedAt 1024 r) ⌝ }
+    ensures demands { λ r. ⌜ HitDemands (now (file .entry)) ray budget r ⌝ }
 {
     let mut prepared = [0i64; 2556];
     let checked = load_hit(file, ray, &mut prepared);
@@ -343,9 +337,7 @@ pub fn first_hit(file: &[u8], ray: Ray, budget: u32) -> HitAnswer
 pub fn column(file: &[u8], ray: Ray, bits: &mut [u8]) -> ColumnAnswer
     ensures answer { λ r. ⌜ r ≡ columnAnswer (now (file .entry)) ray (length (now (bits .entry))) ⌝ }
     ensures bytes { λ _. ⌜ now (bits .exit) ≡ bitsLeft (now (file .entry)) ray (now (bits .entry)) ⌝ }
-    ensures alone { λ r. ⌜ AloneBits (now (file .entry)) ray (columnLookedAt 1024 r) (now (bits .exit)) ⌝ }
-    ensures counted { λ r. ⌜ CountedColumn (now (file .entry)) ray r ⌝ }
-    ensures sound { λ r. ⌜ Sound (now (file .entry)) ray (columnLookedAt 1024 r) ⌝ }
+    ensures demands { λ r. ⌜ ColumnDemands (now (file .entry)) ray r (now (bits .exit)) ⌝ }
 {
     let mut prepared = [0i64; 2556];
     let checked = load_buffer(file, ray, 128, bits.len(), &mut prepared);
@@ -362,60 +354,5 @@ pub fn column(file: &[u8], ray: Ray, bits: &mut [u8]) -> ColumnAnswer
                 probes: cast_column(bits, &prepared[..], s),
             }
         }
-    }
-}
-
-// ---- the slicing host's numbers
-
-// The ray from A to B.
-pub fn ray_of(ax: i32, ay: i32, az: i32, bx: i32, by: i32, bz: i32) -> Ray
-    ensures { λ r. ⌜ r ≡ rayOf ax ay az bx by bz ⌝ }
-{
-    Ray {
-        start: Position {
-            x: ax,
-            y: ay,
-            z: az,
-        },
-        end: Position {
-            x: bx,
-            y: by,
-            z: bz,
-        },
-    }
-}
-
-pub fn cast_number(answer: CastAnswer) -> u32
-    requires { ⌜ castNumber answer < 2 ^ 32 ⌝ }
-    ensures { λ r. ⌜ r ≡ castNumber answer ⌝ }
-{
-    match answer {
-        CastAnswer::Refused(number) => number,
-        CastAnswer::Complete { probes } => 65536 + probes,
-        CastAnswer::Spent { tick: _, probes } => 131072 + probes,
-    }
-}
-
-pub fn hit_number(answer: HitAnswer) -> u64
-    requires { ⌜ hitNumber answer < 2 ^ 64 ⌝ }
-    ensures { λ r. ⌜ r ≡ hitNumber answer ⌝ }
-{
-    match answer {
-        HitAnswer::Refused(number) => number as u64,
-        HitAnswer::Hit { tick, mark, probes } => mark as u64 * 4294967296
-            + tick as u64 * 65536
-            + probes as u64,
-        HitAnswer::Clear { probes } => 3 * 4294967296 + probes as u64,
-        HitAnswer::Spent { tick, probes } => 4 * 4294967296 + tick as u64 * 65536 + probes as u64,
-    }
-}
-
-pub fn column_number(answer: ColumnAnswer) -> u32
-    requires { ⌜ columnNumber answer < 2 ^ 32 ⌝ }
-    ensures { λ r. ⌜ r ≡ columnNumber answer ⌝ }
-{
-    match answer {
-        ColumnAnswer::Refused(number) => number,
-        ColumnAnswer::Complete { probes } => 65536 + probes,
     }
 }

@@ -1,14 +1,14 @@
 // The slicing host's entries: C functions on a part file's bytes, numbers and a lent buffer (document 01, "Calls").
 // include/fenalukki.h is what a C program includes.
 
-use cast::cast_number;
 use cast::column;
-use cast::column_number;
 use cast::first_hit;
 use cast::full_cast;
-use cast::hit_number;
-use cast::ray_of;
-ghost use Rattle.cast.specs.Numbers.{rayOf};
+use numbers::cast_number;
+use numbers::column_number;
+use numbers::hit_number;
+use numbers::ray_of;
+ghost use Rattle.numbers.specs.Numbers.{rayOf};
 ghost use Rattle.fenalukki.specs.Host.{HostCast, HostHit, HostColumn};
 
 // Full cast: 1,024 mark bytes, as far as the budget goes.

@@ -3,7 +3,7 @@ use mathlib.Core.Path.{_≡_, ap, _∙_}
 use mathlib.Core.List.{List}
 use Prim.Native.Nat.{ℕ}
 use lib.ListN.{length}
-use Rattle.cast.proofs.Numbers.{cast-number-fits, hit-number-fits, column-number-fits}
+use Rattle.numbers.proofs.Numbers.{cast-number-fits, hit-number-fits, column-number-fits}
 use Rattle.view.specs.declared.ViewRay.{ViewRay}
 use Rattle.view.specs.declared.ViewAnswer.{ViewAnswer}
 use Rattle.view.specs.Call.{viewerFirstHit}
@@ -17,9 +17,9 @@ use Rattle.testhost.specs.Entries.{viewNumber, numberOf, NumberFits, tot
 
 pub number-fits : (file : List ℕ) (c : Call) (lent : List ℕ) (r : Answer) (after : List ℕ) → Performed file c lent r after → NumberFits r
 unfolding NumberFits answerTo Demanded
-number-fits file (call.FullCast ray budget) lent r after p = rw (p .answer) (cast-number-fits file ray budget _ (p .demands .1))
-number-fits file (call.FirstHit ray budget) lent r after p = rw (p .answer) (hit-number-fits file ray budget _ (p .demands .0) (p .demands .1))
-number-fits file (call.Column ray) lent r after p = rw (p .answer) (column-number-fits file ray _ (p .demands .1))
+number-fits file (call.FullCast ray budget) lent r after p = rw (p .answer) (cast-number-fits file ray budget _ (p .demands .counted))
+number-fits file (call.FirstHit ray budget) lent r after p = rw (p .answer) (hit-number-fits file ray budget _ (p .demands .alone) (p .demands .counted))
+number-fits file (call.Column ray) lent r after p = rw (p .answer) (column-number-fits file ray _ (p .demands .counted))
 
 abbrev viewCall : ViewRay → ℕ → ViewCall
 viewCall ray budget = record { ray = ray; budget = budget }

@@ -1,4 +1,4 @@
--- What the reference's tests get: an answer's number and place, and the totals as three numbers.
+-- What the tests get: an answer's number and place, and the totals as three numbers.
 use mathlib.Core.Bool.{false, cond}
 use mathlib.Core.List.{List}
 use Prim.Native.Nat.{ℕ, _+_, _*_, _^_, _<_}
@@ -7,7 +7,7 @@ use lib.Dec.{eqb}
 use lib.IntN.{pos}
 use lib.Ieee.{Float, fin}
 use Rattle.field.specs.declared.Ray.{Ray}
-use Rattle.cast.specs.Numbers.{castNumber, hitNumber, columnNumber}
+use Rattle.numbers.specs.Numbers.{castNumber, hitNumber, columnNumber}
 use Rattle.view.specs.declared.ViewRay.{ViewRay}
 use Rattle.view.specs.declared.ViewAnswer.{ViewAnswer}
 use Rattle.view.specs.declared.ViewAnswer.the-variants as view

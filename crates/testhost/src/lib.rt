@@ -1,11 +1,11 @@
-// Entries for the reference's tests alone: the viewer's first hit, and the calls that are handed the running totals. The slicing
+// Entries for tests alone: the viewer's first hit, and the calls that are handed the running totals. The slicing
 // host links `fenalukki`, which has none of them.
 
-use cast::cast_number;
-use cast::column_number;
-use cast::hit_number;
-use cast::ray_of;
 use field::Ray;
+use numbers::cast_number;
+use numbers::column_number;
+use numbers::hit_number;
+use numbers::ray_of;
 use totals::Answer;
 use totals::Call;
 use totals::Totals;
@@ -18,7 +18,7 @@ use view::ViewRay;
 use view::viewer_first_hit;
 ghost use mathlib.Core.Path.{_≡_};
 ghost use lib.ListN.{length};
-ghost use Rattle.cast.specs.Numbers.{rayOf};
+ghost use Rattle.numbers.specs.Numbers.{rayOf};
 ghost use Rattle.view.specs.Call.{viewerFirstHit};
 ghost use Rattle.totals.specs.Calls.{answerTo, bytesLeft, totalsAfter, totalsAfterView};
 ghost use Rattle.testhost.specs.Entries.{viewRayOf, viewNumber, placeIn, numberOf, NumberFits, callOf, totalsIn, totalsPut};

@@ -14,7 +14,7 @@ use Rattle.cast.specs.Calls.{castAfter, fullCast, hitAfter, firstHit, columnAft
 use Rattle.cast.proofs.Calls.{CastPromised, HitPromised, ColumnPromised}
 use Rattle.view.specs.declared.ViewAnswer.{ViewAnswer}
 use Rattle.view.specs.Call.{viewQuestions, viewOf, viewerTicks, viewerFirstHit}
-use Rattle.view.proofs.Call.{ViewPromised}
+use Rattle.view.specs.Demands.{ViewDemands}
 use Rattle.totals.specs.declared.Totals.{Totals}
 use Rattle.totals.specs.declared.Call.{Call}
 use Rattle.totals.specs.declared.Call.the-variants as call
@@ -29,26 +29,25 @@ module _ (file : List ℕ) (ray : Ray) (lent : List ℕ) {c : Call} where
   pub cast-performed : (budget : ℕ) (w : CastAnswer) (after : List ℕ)
       → c ≡ call.FullCast ray budget → CastPromised file ray budget lent w after → Performed file c lent (answer.FullCast w) after
   unfolding answerTo bytesLeft Demanded
-  cast-performed budget w after is (a, (bytes, (alone, (counted, sound)))) =
-      rw is (record { answer = ap answer.FullCast a; bytes = bytes; demands = rw (← a) (alone, counted, sound) })
+  cast-performed budget w after is (a, (bytes, demands)) =
+      rw is (record { answer = ap answer.FullCast a; bytes = bytes; demands = rw (← a) demands })
 
   pub hit-performed : (budget : ℕ) (f : HitAnswer)
       → c ≡ call.FirstHit ray budget → HitPromised file ray budget f → Performed file c lent (answer.FirstHit f) lent
   unfolding answerTo bytesLeft Demanded
-  hit-performed budget f is (a, (alone, (counted, sound))) =
-      rw is (record { answer = ap answer.FirstHit a; bytes = refl; demands = rw (← a) (alone, counted, sound) })
+  hit-performed budget f is (a, demands) =
+      rw is (record { answer = ap answer.FirstHit a; bytes = refl; demands = rw (← a) demands })
 
   pub column-performed : (w : ColumnAnswer) (after : List ℕ)
       → c ≡ call.Column ray → ColumnPromised file ray lent w after → Performed file c lent (answer.Column w) after
   unfolding answerTo bytesLeft Demanded
-  column-performed w after is (a, (bytes, (alone, (counted, sound)))) =
-      rw is (record { answer = ap answer.Column a; bytes = bytes; demands = rw (← a) (alone, counted, sound) })
+  column-performed w after is (a, (bytes, demands)) =
+      rw is (record { answer = ap answer.Column a; bytes = bytes; demands = rw (← a) demands })
 
 module _ (file : List ℕ) (c : ViewCall) {r : ViewAnswer} where
-  pub viewed : ViewPromised file (c .ray) (c .budget) r → Viewed file c r
+  pub viewed : (r ≡ viewerFirstHit file (c .ray) (c .budget)) × ViewDemands file (c .ray) (c .budget) r → Viewed file c r
   unfolding viewTo
-  viewed (a, (ticks, (exact, (alone, (counted, sound))))) =
-      record { answer = a; ticks = ticks; exact = exact; alone = alone; counted = counted; sound = sound }
+  viewed (a, demands) = record { answer = a; demands = demands }
 
 -- the totals that an answer's tally makes are those after the call
 pub totals-after : {file : List ℕ} {c : Call} {lent : List ℕ} {r : Answer} {after : List ℕ} (t : Totals) {t′ : Totals}

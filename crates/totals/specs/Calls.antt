@@ -3,15 +3,11 @@ use mathlib.Core.Path.{_≡_}
 use mathlib.Core.List.{List}
 use Prim.Native.Nat.{ℕ}
 use lib.ListN.{length}
-use Rattle.cast.specs.Halving.{castLookedAt}
-use Rattle.cast.specs.FirstHit.{hitLookedAt}
-use Rattle.cast.specs.Column.{columnLookedAt}
 use Rattle.cast.specs.Calls.{fullCast, marksLeft, firstHit, columnAnswer, bitsLeft}
-use Rattle.cast.specs.Demands.{Sound, Alone, AloneBits, AloneHit, Counted, CountedHit, CountedColumn}
+use Rattle.cast.specs.Demands.{CastDemands, HitDemands, ColumnDemands}
 use Rattle.view.specs.declared.ViewAnswer.{ViewAnswer}
-use Rattle.view.specs.Ray.{stepsRay}
-use Rattle.view.specs.Call.{viewerTicks, viewerFirstHit}
-use Rattle.view.specs.Demands.{inTicks, ExactPlace, CountedView}
+use Rattle.view.specs.Call.{viewerFirstHit}
+use Rattle.view.specs.Demands.{ViewDemands}
 use Rattle.totals.specs.declared.Totals.{Totals}
 use Rattle.totals.specs.declared.Call.{Call}
 use Rattle.totals.specs.declared.Call.the-variants as call
@@ -36,15 +32,9 @@ bytesLeft file (call.Column ray) lent = bitsLeft file ray lent
 
 -- demands 2 and 3 of the answer, and of the bytes afterwards in a buffer of so many
 unfoldable pub Demanded : List ℕ → Call → ℕ → List ℕ → Type 0
-Demanded file (call.FullCast ray budget) room after =
-    let a = fullCast file ray budget room in
-    Alone file ray (castLookedAt 1024 a) after × Counted file ray budget a × Sound file ray (castLookedAt 1024 a)
-Demanded file (call.FirstHit ray budget) room after =
-    let a = firstHit file ray budget in
-    AloneHit file ray a × CountedHit file ray budget a × Sound file ray (hitLookedAt 1024 a)
-Demanded file (call.Column ray) room after =
-    let a = columnAnswer file ray room in
-    AloneBits file ray (columnLookedAt 1024 a) after × CountedColumn file ray a × Sound file ray (columnLookedAt 1024 a)
+Demanded file (call.FullCast ray budget) room after = CastDemands file ray budget (fullCast file ray budget room) after
+Demanded file (call.FirstHit ray budget) room after = HitDemands file ray budget (firstHit file ray budget)
+Demanded file (call.Column ray) room after = ColumnDemands file ray (columnAnswer file ray room) after
 
 -- a call that is lent no totals: its answer, and the bytes afterwards in the buffer that was lent
 pub record Performed (file : List ℕ) (call : Call) (lent : List ℕ) (r : Answer) (after : List ℕ) : Type 0 where
@@ -65,11 +55,7 @@ viewTo file call = viewerFirstHit file (call .ray) (call .budget)
 -- a call that is lent no totals: its answer, and what `view` promises of it
 pub record Viewed (file : List ℕ) (call : ViewCall) (r : ViewAnswer) : Type 0 where
   pub answer : r ≡ viewTo file call
-  pub ticks : inTicks 1024 r ≡ viewerTicks file (call .ray) (call .budget)
-  pub exact : ExactPlace 1024 r
-  pub alone : AloneHit file (stepsRay (call .ray)) (inTicks 1024 r)
-  pub counted : CountedView file (stepsRay (call .ray)) (call .budget) r
-  pub sound : Sound file (stepsRay (call .ray)) (hitLookedAt 1024 (inTicks 1024 r))
+  pub demands : ViewDemands file (call .ray) (call .budget) r
 
 -- the totals after it
 unfoldable pub totalsAfterView : List ℕ → ViewCall → Totals → Totals

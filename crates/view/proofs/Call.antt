@@ -25,10 +25,10 @@ use Rattle.cast.specs.Questions.{endsDiffer, hitQuestions}
 use Rattle.cast.specs.Calls.{rayHit, hitAfter, firstHit}
 use Rattle.cast.specs.Demands.{Sound, AloneHit, CountedHit}
 use Rattle.cast.proofs.FirstHit.{Found}
-use Rattle.cast.proofs.Demands.{no-ticks, hit-within, ray-found, hit-alone, hit-counted, hit-sound}
+use Rattle.cast.proofs.Demands.{no-ticks, hit-within, ray-found, hit-demands}
 use Rattle.view.specs.Ray.{whole, endWhole, rayWhole, stepsRay}
 use Rattle.view.specs.Call.{floatQuestions, viewQuestions, viewOf, viewerTicks, viewerFirstHit}
-use Rattle.view.specs.Demands.{inTicks, ExactPlace, CountedView}
+use Rattle.view.specs.Demands.{inTicks, CountedView, ViewDemands}
 use Rattle.view.specs.declared.ViewRay.{ViewRay}
 use Rattle.view.specs.declared.ViewAnswer.{ViewAnswer}
 use Rattle.view.specs.declared.ViewAnswer.the-variants as view
@@ -134,10 +134,9 @@ module _ (file : List ℕ) (ray : ViewRay) where
     found-demands : firstNo (hitQuestions file steps) ≡ Yes → DemandsMet (rayHit file steps budget)
     unfolding firstHit hitAfter
     found-demands e =
-        let is : firstHit file steps budget ≡ rayHit file steps budget = ap (λ (v : Verdict). hitAfter v file steps budget) e in (
-          rw (← is) (hit-alone file steps budget),
-          (counted (rayHit file steps budget) (ray-found file steps e budget) (rw (← is) (hit-counted file steps budget)), rw (← is) (hit-sound file steps budget)),
-        )
+        let is : firstHit file steps budget ≡ rayHit file steps budget = ap (λ (v : Verdict). hitAfter v file steps budget) e in
+        let d = rw is at (hit-demands file steps budget) in
+        (d .alone, (counted (rayHit file steps budget) (ray-found file steps e budget) (d .counted), d .sound))
 
     refused-demands : {n : ℕ} → firstNo (viewQuestions file ray) ≡ No n → DemandsMet (found.Refused n)
     unfolding AloneHit CountedView viewOf hitLookedAt
@@ -151,20 +150,19 @@ module _ (file : List ℕ) (ray : ViewRay) where
         go Yes e = found-demands (hit-yes e)
         go (No n) e = refused-demands e
 
-    -- what the call promises of an answer
-    abbrev pub ViewPromised : ViewAnswer → Type 0
-    ViewPromised a =
-        (a ≡ viewerFirstHit file ray budget)
-        × ((inTicks 1024 a ≡ viewerTicks file ray budget)
-        × (ExactPlace 1024 a
-        × (AloneHit file steps (inTicks 1024 a)
-        × (CountedView file steps budget a × Sound file steps (hitLookedAt 1024 (inTicks 1024 a))))))
-
-    pub view-promised : {a : ViewAnswer} → a ≡ viewerFirstHit file ray budget → ViewPromised a
+    pub view-promised : {a : ViewAnswer} → a ≡ viewerFirstHit file ray budget → (a ≡ viewerFirstHit file ray budget) × ViewDemands file ray budget a
     unfolding viewerFirstHit
     view-promised e =
         let d = ticks-demands in
         let f = viewerTicks file ray budget in
         let near = hit-within file steps f (d .0) in
-        let back = in-ticks 10 (lit≤ tt) f near in
-        (e, rw (e, back) (refl, (exact-places 10 (lit≤ tt) f near, (d .0, (d .1 .0, d .1 .1)))))
+        let back = in-ticks 10 (lit≤ tt) f near in (
+          e,
+          rw e (record {
+            ticks = back;
+            exact = exact-places 10 (lit≤ tt) f near;
+            alone = rw back (d .0);
+            counted = d .1 .0;
+            sound = rw back (d .1 .1);
+          }),
+        )

@@ -74,37 +74,35 @@ compared a b c d c-pos d-pos s t m n e g x y =
     ∙ ap (λ (k : ℕ). b *ℤ pos c *ℤ pos k) (mul-comm (down g) (down e)))
 
 module _ (a b : ℤ) (c d : ℕ) (c-pos : 0 < c) (d-pos : 0 < d) where
+  -- floats that have values are finite
+  finite : (test : Float → Float → Bool) {r : Bool}
+      → ((s t : Bool) (m n : ℕ) (e g : ℤ) → Equals (fin s m e) a c → Equals (fin t n g) b d → test (fin s m e) (fin t n g) ≡ r)
+      → (x y : Float) → Equals x a c → Equals y b d → test x y ≡ r
+  finite test f nan y h k = absurd h
+  finite test f (inf s) y h k = absurd h
+  finite test f (fin s m e) nan h k = absurd k
+  finite test f (fin s m e) (inf t) h k = absurd k
+  finite test f (fin s m e) (fin t n g) h k = f s t m n e g h k
+
   pub le-values : (x y : Float) → Equals x a c → Equals y b d → le x y ≡ leZ (a *ℤ pos d) (b *ℤ pos c)
   unfolding le lt eq
-  le-values nan y h k = absurd h
-  le-values (inf s) y h k = absurd h
-  le-values (fin s m e) nan h k = absurd k
-  le-values (fin s m e) (inf t) h k = absurd k
-  le-values (fin s m e) (fin t n g) h k =
+  le-values = finite le (λ s t m n e g h k.
       let p = m * up e * down g in
       let q = n * up g * down e in
-      rw (below-is s t p q, level-is s t p q) (lt-or-eq (signed s p) (signed t q) ∙ compared a b c d c-pos d-pos s t m n e g h k)
+      rw (below-is s t p q, level-is s t p q) (lt-or-eq (signed s p) (signed t q) ∙ compared a b c d c-pos d-pos s t m n e g h k))
 
   pub lt-values : (x y : Float) → Equals x a c → Equals y b d → lt x y ≡ ltZ (a *ℤ pos d) (b *ℤ pos c)
   unfolding lt
-  lt-values nan y h k = absurd h
-  lt-values (inf s) y h k = absurd h
-  lt-values (fin s m e) nan h k = absurd k
-  lt-values (fin s m e) (inf t) h k = absurd k
-  lt-values (fin s m e) (fin t n g) h k =
+  lt-values = finite lt (λ s t m n e g h k.
       let p = m * up e * down g in
       let q = n * up g * down e in
       below-is s t p q ∙ lt-not-le (signed s p) (signed t q)
-      ∙ ap not (compared b a d c d-pos c-pos t s n m g e k h) ∙ sym (lt-not-le (a *ℤ pos d) (b *ℤ pos c))
+      ∙ ap not (compared b a d c d-pos c-pos t s n m g e k h) ∙ sym (lt-not-le (a *ℤ pos d) (b *ℤ pos c)))
 
   pub eq-values : (x y : Float) → Equals x a c → Equals y b d → eq x y ≡ eqℤ (a *ℤ pos d) (b *ℤ pos c)
   unfolding eq
-  eq-values nan y h k = absurd h
-  eq-values (inf s) y h k = absurd h
-  eq-values (fin s m e) nan h k = absurd k
-  eq-values (fin s m e) (inf t) h k = absurd k
-  eq-values (fin s m e) (fin t n g) h k =
+  eq-values = finite eq (λ s t m n e g h k.
       let p = m * up e * down g in
       let q = n * up g * down e in
       level-is s t p q ∙ eq-both (signed s p) (signed t q)
-      ∙ rw (compared a b c d c-pos d-pos s t m n e g h k, compared b a d c d-pos c-pos t s n m g e k h) (sym (eq-both (a *ℤ pos d) (b *ℤ pos c)))
+      ∙ rw (compared a b c d c-pos d-pos s t m n e g h k, compared b a d c d-pos c-pos t s n m g e k h) (sym (eq-both (a *ℤ pos d) (b *ℤ pos c))))

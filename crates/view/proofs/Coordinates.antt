@@ -1,7 +1,7 @@
 -- The six coordinates in steps: what one float's answer says of question 15 and of the coordinate, and that all are in question 12's range.
 use mathlib.Core.Path.{_≡_, refl, sym, ap, _∙_}
-use mathlib.Core.Logic.{_⊎_, inl, inr}
-use mathlib.Core.Bool.{true, false}
+use mathlib.Core.Logic.{inl, inr}
+use mathlib.Core.Bool.{Bool, true, false, cond}
 use Prim.Native.Nat.{ℕ}
 use native.Mathlib.Omega.{arith}
 use lib.IntN.{ℤ}
@@ -34,35 +34,39 @@ pub not-whole : (x : Float) → stepsOf x ≡ Refused → whole x ≡ false
 unfolding whole
 not-whole x h = ap isWhole h
 
--- an end and a ray, found or not
+-- ---- an end and a ray, found or not
 
-end-apart : {X : Type 0} {p : Position} → At p ≡ end.Refused → X
-end-apart e = let z : _≡_ {A = ℕ} 0 1 = cc in absurd (omega arith)
+-- what a test picks, `found` or `none`, and the two are apart
+module _ {X : Type 0} (t : Bool) (found none : X) (apart : found ≡ none → ⊥) where
+  picked : {x : X} → cond t found none ≡ x → (x ≡ none → ⊥) → (t ≡ true) × (found ≡ x)
+  picked h some = elim (cond-is t found none) [ inl k ↦ (k .0, sym (k .1) ∙ h) | inr k ↦ absurd (some (sym h ∙ k .1)) ]
 
-ray-apart : {X : Type 0} {r : Ray} → Along r ≡ ray.Refused → X
-ray-apart e = let z : _≡_ {A = ℕ} 0 1 = cc in absurd (omega arith)
+  left : cond t found none ≡ none → t ≡ false
+  left h = elim (cond-is t found none) [ inl k ↦ absurd (apart (sym (k .1) ∙ h)) | inr k ↦ k .0 ]
+
+end-apart : {p : Position} → At p ≡ end.Refused → ⊥
+end-apart e = let z : _≡_ {A = ℕ} 0 1 = cc in omega arith
+
+ray-apart : {r : Ray} → Along r ≡ ray.Refused → ⊥
+ray-apart e = let z : _≡_ {A = ℕ} 0 1 = cc in omega arith
 
 module _ (e : ViewEnd) where
-  end-is : ((endWhole e ≡ true) × (endSteps e ≡ At (positionOf e))) ⊎ ((endWhole e ≡ false) × (endSteps e ≡ end.Refused))
-  unfolding endSteps
-  end-is = cond-is (endWhole e) (At (positionOf e)) end.Refused
-
   pub end-whole : {p : Position} → endSteps e ≡ At p → (endWhole e ≡ true) × (p ≡ positionOf e)
-  end-whole h = elim end-is [ inl k ↦ (k .0, cc) | inr k ↦ end-apart (sym h ∙ k .1) ]
+  unfolding endSteps
+  end-whole h = let k = picked (endWhole e) (At (positionOf e)) end.Refused end-apart h end-apart in (k .0, cc)
 
   pub end-not-whole : endSteps e ≡ end.Refused → endWhole e ≡ false
-  end-not-whole h = elim end-is [ inl k ↦ end-apart (sym (k .1) ∙ h) | inr k ↦ k .0 ]
+  unfolding endSteps
+  end-not-whole h = left (endWhole e) (At (positionOf e)) end.Refused end-apart h
 
 module _ (v : ViewRay) where
-  ray-is : ((rayWhole v ≡ true) × (raySteps v ≡ Along (stepsRay v))) ⊎ ((rayWhole v ≡ false) × (raySteps v ≡ ray.Refused))
-  unfolding raySteps
-  ray-is = cond-is (rayWhole v) (Along (stepsRay v)) ray.Refused
-
   pub ray-whole : {r : Ray} → raySteps v ≡ Along r → (rayWhole v ≡ true) × (r ≡ stepsRay v)
-  ray-whole h = elim ray-is [ inl k ↦ (k .0, cc) | inr k ↦ ray-apart (sym h ∙ k .1) ]
+  unfolding raySteps
+  ray-whole h = let k = picked (rayWhole v) (Along (stepsRay v)) ray.Refused ray-apart h ray-apart in (k .0, cc)
 
   pub ray-not-whole : raySteps v ≡ ray.Refused → rayWhole v ≡ false
-  ray-not-whole h = elim ray-is [ inl k ↦ ray-apart (sym (k .1) ∙ h) | inr k ↦ k .0 ]
+  unfolding raySteps
+  ray-not-whole h = left (rayWhole v) (Along (stepsRay v)) ray.Refused ray-apart h
 
 -- question 12 of the coordinates
 

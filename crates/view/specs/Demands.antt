@@ -7,8 +7,12 @@ use lib.IntN.{pos}
 use Rattle.field.specs.declared.Ray.{Ray}
 use Rattle.cast.specs.declared.HitAnswer.{HitAnswer}
 use Rattle.cast.specs.declared.HitAnswer.the-variants as found
-use Rattle.cast.specs.Demands.{CountedHit}
+use Rattle.cast.specs.FirstHit.{hitLookedAt}
+use Rattle.cast.specs.Demands.{Sound, AloneHit, CountedHit}
 use Rattle.view.specs.Floats.{Equals, tickAt}
+use Rattle.view.specs.Ray.{stepsRay}
+use Rattle.view.specs.Call.{viewerTicks}
+use Rattle.view.specs.declared.ViewRay.{ViewRay}
 use Rattle.view.specs.declared.ViewAnswer.{ViewAnswer}
 use Rattle.view.specs.declared.ViewAnswer.the-variants as view
 
@@ -32,3 +36,11 @@ CountedView file ray budget (view.Refused number) = ((1 ≤ number) × (number �
 CountedView file ray budget (view.Hit entry mark probes) = CountedHit file ray budget (inTicks 1024 (view.Hit entry mark probes))
 CountedView file ray budget (view.Clear probes) = CountedHit file ray budget (inTicks 1024 (view.Clear probes))
 CountedView file ray budget (view.Spent place probes) = CountedHit file ray budget (inTicks 1024 (view.Spent place probes))
+
+-- what the call promises of its answer beside its equation
+pub record ViewDemands (file : List ℕ) (ray : ViewRay) (budget : ℕ) (answer : ViewAnswer) : Type 0 where
+  pub ticks : inTicks 1024 answer ≡ viewerTicks file ray budget
+  pub exact : ExactPlace 1024 answer
+  pub alone : AloneHit file (stepsRay ray) (inTicks 1024 answer)
+  pub counted : CountedView file (stepsRay ray) budget answer
+  pub sound : Sound file (stepsRay ray) (hitLookedAt 1024 (inTicks 1024 answer))

@@ -10,12 +10,11 @@ use part::check;
 ghost use mathlib.Core.Path.{_≡_};
 ghost use Prim.Native.Nat.{_≤_, _<_};
 ghost use Rattle.cast.specs.FirstHit.{hitLookedAt};
-ghost use Rattle.cast.specs.Demands.{Sound, AloneHit};
 ghost use Rattle.view.specs.Floats.{placeOf};
 ghost use Rattle.view.specs.Steps.{times64, stepsOf, Exactly};
-ghost use Rattle.view.specs.Ray.{endSteps, raySteps, stepsRay};
-ghost use Rattle.view.specs.Call.{viewOf, viewerTicks, viewerFirstHit};
-ghost use Rattle.view.specs.Demands.{inTicks, ExactPlace, CountedView};
+ghost use Rattle.view.specs.Ray.{endSteps, raySteps};
+ghost use Rattle.view.specs.Call.{viewOf, viewerFirstHit};
+ghost use Rattle.view.specs.Demands.{ViewDemands};
 
 // An end of the viewer's ray, in millimetres.
 pub struct ViewEnd {
@@ -150,11 +149,7 @@ fn view_of(answer: HitAnswer, ticks: usize) -> ViewAnswer
 // viewer's.
 pub fn viewer_first_hit(file: &[u8], ray: ViewRay, budget: u32) -> ViewAnswer
     ensures answer { λ r. ⌜ r ≡ viewerFirstHit (now (file .entry)) ray budget ⌝ }
-    ensures ticks { λ r. ⌜ inTicks 1024 r ≡ viewerTicks (now (file .entry)) ray budget ⌝ }
-    ensures exact { λ r. ⌜ ExactPlace 1024 r ⌝ }
-    ensures alone { λ r. ⌜ AloneHit (now (file .entry)) (stepsRay ray) (inTicks 1024 r) ⌝ }
-    ensures counted { λ r. ⌜ CountedView (now (file .entry)) (stepsRay ray) budget r ⌝ }
-    ensures sound { λ r. ⌜ Sound (now (file .entry)) (stepsRay ray) (hitLookedAt 1024 (inTicks 1024 r)) ⌝ }
+    ensures demands { λ r. ⌜ ViewDemands (now (file .entry)) ray budget r ⌝ }
 {
     match ray_in_steps(ray) {
         RaySteps::Along(steps) => view_of(first_hit(file, steps, budget), 1024),

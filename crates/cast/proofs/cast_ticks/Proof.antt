@@ -19,16 +19,6 @@ reached c =
     rw (c .before .before .looked-at .ensures)
     (reached-within (stateIn (a .prepared .now) (a .s)) (a .s .budget) (a .level) (a .s .ticks) (s .pre .1 .0 .size) _ (answer (c .before .before .before .before .before)))
 
-returns : tie.Need-returns
-returns c =
-    let s = c .before .before .before .before .before .before .before .before .before .before .before in
-    let a = s .args in
-    let k = c .before .before .before .before .before .before .before .before in (
-      answer k,
-      handed-over (stateIn (a .prepared .now) (a .s)) (a .s .budget) (a .level) (a .s .ticks) (s .pre .1 .0 .size) _ (answer k)
-          _ _ _ _ (s .pre .1 .1) (c .before .before .before .before .before .looked-at .ensures) (k .cast-span .ensures .1) (c .before .before .fill .ensures),
-    )
-
 pub cast-ticks-spec : {M : Type 1} → statement M
 cast-ticks-spec =
     tie.close
@@ -38,4 +28,11 @@ cast-ticks-spec =
     reached
     (λ c κs. omega (arith, reached c, c .before .before .before .before .before .before .before .before .pre .1 .1, c .before .before .before .before .before .cast-span .kept .0))
     (λ c. search needs)
-    returns)
+    (λ c.
+    let s = c .before .before .before .before .before .before .before .before .before .before .before in
+    let a = s .args in
+    let k = c .before .before .before .before .before .before .before .before in (
+      answer k,
+      handed-over (stateIn (a .prepared .now) (a .s)) (a .s .budget) (a .level) (a .s .ticks) (s .pre .1 .0 .size) _ (answer k)
+          _ _ _ _ (s .pre .1 .1) (c .before .before .before .before .before .looked-at .ensures) (k .cast-span .ensures .1) (c .before .before .fill .ensures),
+    )))

@@ -14,20 +14,6 @@ Inv-loop marks₀ first len mark n₀ marks n = (n ≤ len) × (marks ≡ sets m
 abbrev μ-loop : tie.MeasureT-loop
 μ-loop marks₀ first len mark n₀ marks n = len - n
 
-loop-again : tie.Need-loop-again Inv-loop μ-loop
-loop-again c =
-    let l = c .before .loop in
-    let a = c .before .before .args in (
-      omega arith,
-      rw (l .inv .1) (sets-replicate (a .marks .now) (a .first) (l .n) (a .mark)),
-      length-set (l .marks) _ (a .mark) ∙ l .inv .2,
-    )
-
-returns : tie.Need-returns Inv-loop μ-loop
-returns c =
-    let e : c .before .before .args .len ≡ c .before .loop .n = omega arith in
-    rw e (c .before .loop .inv .1)
-
 pub fill-spec : {M : Type 1} → statement M
 fill-spec =
     tie.close
@@ -39,6 +25,14 @@ fill-spec =
     (λ c. omega arith)
     (λ c. omega arith)
     (λ c. omega arith)
-    loop-again
+    (λ c.
+    let l = c .before .loop in
+    let a = c .before .before .args in (
+      omega arith,
+      rw (l .inv .1) (sets-replicate (a .marks .now) (a .first) (l .n) (a .mark)),
+      length-set (l .marks) _ (a .mark) ∙ l .inv .2,
+    ))
     (λ c. c .before .loop .inv .2)
-    returns)
+    (λ c.
+    let e : c .before .before .args .len ≡ c .before .loop .n = omega arith in
+    rw e (c .before .loop .inv .1)))

@@ -10,15 +10,6 @@ accepted : (c : tie.After-checked2) → let a = c .before .before .before .befor
     checkHit (a .file .now) (a .ray) ≡ Accepted (c .checked2 .given .0 .0) (c .checked2 .given .0 .1 .0)
 accepted c = sym (c .before .before .load-hit .ensures .0) ∙ c .checked2 .given .1
 
-returns : tie.Need-returns
-returns c = hit-refused _ _ _ (sym (c .before .before .before .load-hit .ensures .0) ∙ c .before .checked .given .1)
-
-returns-2 : tie.Need-returns-2
-returns-2 c =
-    let k = c .before .before .before in
-    let l = k .before .before .load-hit in
-    hit-made _ _ _ _ (states-are _ _ _ _ refl (l .ensures .1) (accepted k) _) (accepted k) (c .hit-span .ensures)
-
 pub first-hit-spec : {M : Type 1} → statement M
 first-hit-spec =
     tie.close
@@ -28,5 +19,8 @@ first-hit-spec =
     (λ c. search needs)
     (λ c. prepared-long _ _ _ _ refl (c .before .before .before .before .load-hit .ensures .1) (accepted (c .before .before)))
     (λ c κs. let k = c .before .before in (searchable _ _ _ _ refl (k .before .before .load-hit .ensures .1) (accepted k) _, whole))
-    returns
-    returns-2)
+    (λ c. hit-refused _ _ _ (sym (c .before .before .before .load-hit .ensures .0) ∙ c .before .checked .given .1))
+    (λ c.
+    let k = c .before .before .before in
+    let l = k .before .before .load-hit in
+    hit-made _ _ _ _ (states-are _ _ _ _ refl (l .ensures .1) (accepted k) _) (accepted k) (c .hit-span .ensures)))

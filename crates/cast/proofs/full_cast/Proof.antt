@@ -15,16 +15,6 @@ accepted : (c : tie.After-checked2) → let a = c .before .before .before .befor
     checkHit (a .file .now) (a .ray) ≡ Accepted (c .checked2 .given .0 .0) (c .checked2 .given .0 .1 .0)
 accepted c = hit-accepted _ _ _ _ (buffer c)
 
-returns : tie.Need-returns
-returns c = cast-refused _ _ _ _ (sym (c .before .before .before .load-buffer .ensures .0) ∙ c .before .checked .given .1)
-
-returns-2 : tie.Need-returns-2
-returns-2 c =
-    let k = c .before .before .before .before .before .before in
-    let l = k .before .before .load-buffer in
-    let w = c .before .before .cast-ticks in
-    cast-made _ _ _ _ _ _ (states-are _ _ _ _ refl (l .ensures .1) (accepted k) _) (buffer k) (w .ensures .0) (w .ensures .1)
-
 pub full-cast-spec : {M : Type 1} → statement M
 full-cast-spec =
     tie.close
@@ -35,6 +25,10 @@ full-cast-spec =
     (λ c. prepared-long _ _ _ _ refl (c .before .before .before .before .before .load-buffer .ensures .1) (accepted (c .before .before .before)))
     (λ c κs. let k = c .before .before .before in
     (searchable _ _ _ _ refl (k .before .before .load-buffer .ensures .1) (accepted k) _, (whole, room-enough _ _ _ _ (buffer k))))
-    returns
+    (λ c. cast-refused _ _ _ _ (sym (c .before .before .before .load-buffer .ensures .0) ∙ c .before .checked .given .1))
     (λ c. search needs)
-    returns-2)
+    (λ c.
+    let k = c .before .before .before .before .before .before in
+    let l = k .before .before .load-buffer in
+    let w = c .before .before .cast-ticks in
+    cast-made _ _ _ _ _ _ (states-are _ _ _ _ refl (l .ensures .1) (accepted k) _) (buffer k) (w .ensures .0) (w .ensures .1)))

@@ -17,23 +17,6 @@ Inv-loop marks n out₀ k₀ out k = (k ≤ n) × (out ≡ sets out₀ 0 (packed
 abbrev μ-loop : tie.MeasureT-loop
 μ-loop marks n out₀ k₀ out k = n - k
 
-loop-again : tie.Need-loop-again Inv-loop μ-loop
-loop-again c =
-    let l = c .before .before .loop in
-    let a = c .before .before .before .before .before .args in (
-      omega arith,
-      rw (l .inv .1, c .pack-byte .ensures) (packed-more (map markBit (a .marks .now)) (a .out .now) (l .k)),
-      length-set (l .out) (l .k) (c .pack-byte .result) ∙ l .inv .2,
-    )
-
-returns : tie.Need-returns Inv-loop μ-loop
-returns c =
-    let s = c .before .before .before .before in
-    let a = s .args in
-    let l = c .before .loop in
-    let e : l .k ≡ a .n = omega arith in
-    (rw e at (l .inv .1)) ∙ sets-whole (packed (map markBit (a .marks .now)) (a .n)) (a .out .now) (a .n) (length-packed _ (a .n)) (s .pre .1)
-
 pub pack-spec : {M : Type 1} → statement M
 unfolding packed
 pack-spec =
@@ -47,6 +30,17 @@ pack-spec =
     (λ c. omega arith)
     (λ c. omega arith)
     (λ c. omega arith)
-    loop-again
+    (λ c.
+    let l = c .before .before .loop in
+    let a = c .before .before .before .before .before .args in (
+      omega arith,
+      rw (l .inv .1, c .pack-byte .ensures) (packed-more (map markBit (a .marks .now)) (a .out .now) (l .k)),
+      length-set (l .out) (l .k) (c .pack-byte .result) ∙ l .inv .2,
+    ))
     (λ c. c .before .loop .inv .2)
-    returns)
+    (λ c.
+    let s = c .before .before .before .before in
+    let a = s .args in
+    let l = c .before .loop in
+    let e : l .k ≡ a .n = omega arith in
+    (rw e at (l .inv .1)) ∙ sets-whole (packed (map markBit (a .marks .now)) (a .n)) (a .out .now) (a .n) (length-packed _ (a .n)) (s .pre .1)))

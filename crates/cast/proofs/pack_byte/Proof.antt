@@ -48,11 +48,6 @@ loop-again c =
           )),
     )
 
-returns : tie.Need-returns Inv-loop μ-loop
-returns c =
-    let e : c .before .loop .k ≡ 8 = omega arith in
-    rw (e, add-zero) at (c .before .loop .inv .2)
-
 pub pack-byte-spec : {M : Type 1} → statement M
 unfolding fromBits
 pack-byte-spec =
@@ -70,4 +65,6 @@ pack-byte-spec =
     (λ c. omega arith)
     (λ c. omega arith)
     loop-again
-    returns)
+    (λ c.
+    let e : c .before .loop .k ≡ 8 = omega arith in
+    rw (e, add-zero) at (c .before .loop .inv .2)))

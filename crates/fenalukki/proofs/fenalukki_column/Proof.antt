@@ -1,5 +1,5 @@
 use borrow.Author.Needs.{needs}
-use Rattle.cast.proofs.Numbers.{hosts-ray, column-number-fits}
+use Rattle.numbers.proofs.Numbers.{hosts-ray, column-number-fits}
 use Rattle.fenalukki.proofs.Host.{host-column}
 use Rattle.fenalukki.proofs.fenalukki_column.Statement.{statement}
 use Rattle.fenalukki.proofs.fenalukki_column.Tie as tie
@@ -10,6 +10,6 @@ fenalukki-column-spec =
     (tie.spec
     (λ c κs. search needs)
     (λ c κs. search needs)
-    (λ c κs. column-number-fits _ _ _ (c .before .before .column .ensures .1 .1 .1 .0))
+    (λ c κs. column-number-fits _ _ _ (c .before .before .column .ensures .1 .1 .counted))
     (λ c. search needs)
     (λ c. host-column _ (hosts-ray _ _ _ _ _ _ (search needs) (search needs) (search needs) (search needs) (search needs) (search needs) (c .before .before .before .before .before .ray-of .ensures)) _ _ _ (c .before .before .before .column .ensures) (c .column-number .ensures)))

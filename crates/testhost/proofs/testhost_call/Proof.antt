@@ -1,8 +1,8 @@
 use mathlib.Core.Path.{_≡_, ap, _∙_}
 use borrow.Author.Needs.{needs}
 use Rattle.field.specs.declared.Ray.{Ray}
-use Rattle.cast.specs.Numbers.{rayOf}
-use Rattle.cast.proofs.Numbers.{hosts-ray}
+use Rattle.numbers.specs.Numbers.{rayOf}
+use Rattle.numbers.proofs.Numbers.{hosts-ray}
 use Rattle.testhost.specs.Entries.{callOf}
 use Rattle.testhost.proofs.Entries.{number-fits, called}
 use Rattle.testhost.proofs.testhost_call.Statement.{statement}

@@ -45,18 +45,6 @@ compared c h = ap (λ (z : ℤ). eq (ofInt binary32 z) (c .before .before .befor
 out : (c : tie.After-scale) → inside (c .scale .result) ≡ false → let x = c .before .args .x in (Refused ≡ stepsOf x) × Exactly x Refused
 out c h = promised (c .before .args .x) (sym (unranged (c .before .args .x) (held (c .before)) (ap inside (sym (c .scale .ensures)) ∙ h)))
 
-returns : tie.Need-returns
-returns c =
-    let b = c .before .before in
-    let r = range (b .before) in
-    promised _ (ap (λ (z : ℤ). Whole (back w32 z)) (cut b) ∙ ap Whole (same w32 (cutOf r) (small-fits (cut-small r) tt))
-    ∙ whole-yes (b .before .before .before .scale .ensures) r (compared b (c .if3 .taken)))
-
-returns-2 : tie.Need-returns-2
-returns-2 c =
-    let b = c .before .before in
-    promised _ (whole-no (b .before .before .before .scale .ensures) (range (b .before)) (compared b (c .if3 .left)))
-
 pub in-steps-spec : {M : Type 1} → statement M
 unfolding ofBits neg
 in-steps-spec =
@@ -66,7 +54,13 @@ in-steps-spec =
     (λ c κs. truncates (c .before .before .scale .ensures) (range c))
     (λ c. rw (cut (c .before)) (castable _ (cut-small (range (c .before .before)))))
     (λ c. rw (cut (c .before .before)) (small-fits (cut-small (range (c .before .before .before))) tt))
-    returns
-    returns-2
+    (λ c.
+    let b = c .before .before in
+    let r = range (b .before) in
+    promised _ (ap (λ (z : ℤ). Whole (back w32 z)) (cut b) ∙ ap Whole (same w32 (cutOf r) (small-fits (cut-small r) tt))
+    ∙ whole-yes (b .before .before .before .scale .ensures) r (compared b (c .if3 .taken))))
+    (λ c.
+    let b = c .before .before in
+    promised _ (whole-no (b .before .before .before .scale .ensures) (range (b .before)) (compared b (c .if3 .left))))
     (λ c. out (c .before .before) (rw (c .before .if1 .taken, c .if2 .left)))
     (λ c. out (c .before) (rw (c .if1 .left))))

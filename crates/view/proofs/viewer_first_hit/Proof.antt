@@ -8,12 +8,6 @@ use Rattle.view.proofs.Call.{view-found, view-refused, view-15, view-pr
 use Rattle.view.proofs.viewer_first_hit.Statement.{statement}
 use Rattle.view.proofs.viewer_first_hit.Tie as tie
 
-returns : tie.Need-returns
-returns c =
-    let b = c .before .before .before in
-    let k = ray-whole _ (sym (b .before .before .ray-in-steps .ensures) ∙ b .steps .given .1) in
-    view-promised _ _ _ (c .view-of .ensures ∙ rw (c .before .first-hit .ensures .0, k .1) (sym (view-found _ _ _ (k .0))))
-
 -- a float that is not whole steps
 fraction : (c : tie.After-check) → rayWhole (c .before .before .before .before .before .args .ray) ≡ false
 fraction c = ray-not-whole _ (sym (c .before .before .before .ray-in-steps .ensures) ∙ c .before .enum-told .given .1)
@@ -25,11 +19,14 @@ viewer-first-hit-spec =
     (λ c κs. search needs)
     (λ c. search needs)
     (λ c κs. search needs)
-    (λ c κs. let h = hit-within _ _ _ (c .first-hit .ensures .1 .0) in search needs)
+    (λ c κs. let h = hit-within _ _ _ (c .first-hit .ensures .1 .alone) in search needs)
     (λ c. search needs)
     (λ c κs. search needs)
     (λ c. search needs)
     (λ c. search needs)
-    returns
+    (λ c.
+    let b = c .before .before .before in
+    let k = ray-whole _ (sym (b .before .before .ray-in-steps .ensures) ∙ b .steps .given .1) in
+    view-promised _ _ _ (c .view-of .ensures ∙ rw (c .before .first-hit .ensures .0, k .1) (sym (view-found _ _ _ (k .0)))))
     (λ c. let b = c .before .before .before in view-promised _ _ _ (sym (view-refused _ _ _ (fraction b) (sym (b .check .ensures) ∙ c .before .number .given .1))))
     (λ c. let b = c .before .before in view-promised _ _ _ (sym (view-15 _ _ _ (fraction b) (sym (b .check .ensures) ∙ c .enum-told2 .given .1)))))

@@ -9,15 +9,15 @@ use mir.Val.{SFits}
 use mir.Facts.{toZ-ofZ}
 use Rattle.exact.proofs.Machine.{back}
 use Rattle.field.specs.declared.Ray.{Ray}
 use Rattle.cast.specs.declared.CastAnswer.{CastAnswer}
 use Rattle.cast.specs.declared.CastAnswer.the-variants as cast
 use Rattle.cast.specs.declared.HitAnswer.{HitAnswer}
 use Rattle.cast.specs.declared.HitAnswer.the-variants as found
 use Rattle.cast.specs.declared.ColumnAnswer.{ColumnAnswer}
 use Rattle.cast.specs.declared.ColumnAnswer.the-variants as column
-use Rattle.cast.specs.Numbers.{rayOf, castNumber, hitNumber, columnNumber}
+use Rattle.numbers.specs.Numbers.{rayOf, castNumber, hitNumber, columnNumber}
 use Rattle.cast.specs.Demands.{AloneHit, Counted, CountedHit, CountedColumn}
 use Rattle.cast.proofs.Ticks.{mark-few}
 
 -- the ray of the host's six numbers, as they are read
 pub hosts-ray : (ax ay az bx by bz : ℤ) {ray : Ray}

@@ -1,8 +1,8 @@
 use native.Mathlib.Omega.{arith}
 use borrow.Author.Needs.{needs}
-use Rattle.cast.specs.Numbers.{columnNumber}
-use Rattle.cast.proofs.column_number.Statement.{statement}
-use Rattle.cast.proofs.column_number.Tie as tie
+use Rattle.numbers.specs.Numbers.{columnNumber}
+use Rattle.numbers.proofs.column_number.Statement.{statement}
+use Rattle.numbers.proofs.column_number.Tie as tie
 
 pub column-number-spec : {M : Type 1} → statement M
 unfolding columnNumber

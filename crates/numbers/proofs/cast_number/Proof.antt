@@ -1,8 +1,8 @@
 use native.Mathlib.Omega.{arith}
 use borrow.Author.Needs.{needs}
-use Rattle.cast.specs.Numbers.{castNumber}
-use Rattle.cast.proofs.cast_number.Statement.{statement}
-use Rattle.cast.proofs.cast_number.Tie as tie
+use Rattle.numbers.specs.Numbers.{castNumber}
+use Rattle.numbers.proofs.cast_number.Statement.{statement}
+use Rattle.numbers.proofs.cast_number.Tie as tie
 
 pub cast-number-spec : {M : Type 1} → statement M
 unfolding castNumber

@@ -1,9 +1,9 @@
 use Prim.Native.Nat.{_+_, _*_, _^_, _<_}
 use native.Mathlib.Omega.{arith}
 use borrow.Author.Needs.{needs}
-use Rattle.cast.specs.Numbers.{hitNumber}
-use Rattle.cast.proofs.hit_number.Statement.{statement}
-use Rattle.cast.proofs.hit_number.Tie as tie
+use Rattle.numbers.specs.Numbers.{hitNumber}
+use Rattle.numbers.proofs.hit_number.Statement.{statement}
+use Rattle.numbers.proofs.hit_number.Tie as tie
 
 hit-fits : (c : tie.After-known-told2) → let g = c .before .answer2 .given .0 in g .1 .0 * 2 ^ 32 + g .0 * 65536 + g .1 .1 .0 < 2 ^ 64
 unfolding hitNumber
