@@ -19,9 +19,6 @@ natAbs-mul (pos a) (negsuc b) = natAbs-neg (pos (a * suc b))
 natAbs-mul (negsuc a) (pos b) = natAbs-neg (pos (suc a * b))
 natAbs-mul (negsuc a) (negsuc b) = refl
 
-pub le-natAbs : (a : ℤ) → a ≤ℤ pos (natAbs a)
-le-natAbs a = uncross (omega (arith, natAbs-parts a))
-
 pub neg-le-natAbs : (a : ℤ) → negℤ a ≤ℤ pos (natAbs a)
 neg-le-natAbs a = uncross (omega (arith, neg-parts a, natAbs-parts a))
 

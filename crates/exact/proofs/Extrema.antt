@@ -8,23 +8,17 @@ use lib.IntN.{ℤ, pos, natAbs}
 use lib.Signed.{ltZ, _≤ℤ_, ≤ℤ-refl}
 use Rattle.exact.specs.Extrema.{maxℤ, minℤ}
 use Rattle.exact.proofs.Order.{≤ℤ-trans, <ℤ-le, pos-reflect}
-use Rattle.exact.proofs.Tests.{cond-is, ltZ-true, ltZ-false}
+use Rattle.exact.proofs.Tests.{cond-by, ltZ-true, ltZ-false}
 
 -- ---- one of the two, and which
 
 pub max-is : (a b : ℤ) → ((a ≤ℤ b) × (maxℤ a b ≡ b)) ⊎ ((b ≤ℤ a) × (maxℤ a b ≡ a))
 unfolding maxℤ
-max-is a b = elim (cond-is (ltZ a b) b a) [
-  | inl h ↦ inl (<ℤ-le (ltZ-true a b (h .0)), h .1)
-  | inr h ↦ inr (ltZ-false a b (h .0), h .1)
-]
+max-is a b = cond-by (ltZ a b) b a (λ e. <ℤ-le (ltZ-true a b e)) (ltZ-false a b)
 
 pub min-is : (a b : ℤ) → ((a ≤ℤ b) × (minℤ a b ≡ a)) ⊎ ((b ≤ℤ a) × (minℤ a b ≡ b))
 unfolding minℤ
-min-is a b = elim (cond-is (ltZ a b) a b) [
-  | inl h ↦ inl (<ℤ-le (ltZ-true a b (h .0)), h .1)
-  | inr h ↦ inr (ltZ-false a b (h .0), h .1)
-]
+min-is a b = cond-by (ltZ a b) a b (λ e. <ℤ-le (ltZ-true a b e)) (ltZ-false a b)
 
 -- ---- the order
 

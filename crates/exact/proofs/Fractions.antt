@@ -1,22 +1,19 @@
 -- Fractions: their order, and what `plus`, `greater` and `lesser` do to it. Laws that pass over a fraction ask that it be `Proper`.
 -- `≼-trans p h k : x ≼ z`, from `h : x ≼ y`, `k : y ≼ z` and `p : Proper y`.
 use mathlib.Core.Path.{_≡_, ap₂}
-use mathlib.Core.Logic.{_⊎_, inl, inr}
+use mathlib.Core.Logic.{_⊎_}
 use mathlib.Core.Bool.{true, false}
 use Prim.Native.Nat.{ℕ}
 use native.Mathlib.Nat.{mul-pos, mul-comm, mul-assoc, mul-one}
 use lib.IntN.{ℤ, pos, _+ℤ_, _*ℤ_}
-use lib.Signed.{_≤ℤ_, ≤ℤ-refl}
+use lib.Signed.{_≤ℤ_}
 use Rattle.exact.specs.Fraction.{Fraction, _over_, Proper, _≼_, atMost, plus, greater, lesser}
 use Rattle.exact.proofs.Ring.{_⊕_, _⊖_, _⊗_, #, _≔_, ring}
 use Rattle.exact.proofs.Order.{nn-add, nn-mul, nn-pos, <ℤ-le, ≤ℤ-of-eq, mul-cancel-le, pos-mono-lt}
 use Rattle.exact.proofs.Certificates.{_≦_by_, le, nn}
-use Rattle.exact.proofs.Tests.{cond-is, leZ-true, leZ-false}
+use Rattle.exact.proofs.Tests.{cond-by, leZ-true, leZ-false}
 
 -- ---- the order
-
-pub ≼-refl : (x : Fraction) → x ≼ x
-≼-refl x = record { cross = ≤ℤ-refl (x .num *ℤ pos (x .den)) }
 
 pub ≼-trans : {x y z : Fraction} → Proper y → x ≼ y → y ≼ z → x ≼ z
 ≼-trans {x} {y} {z} p h k = record {
@@ -93,14 +90,8 @@ atMost-false x y e = record { cross = <ℤ-le (leZ-false (x .num *ℤ pos (y .de
 
 pub greater-is : (x y : Fraction) → ((x ≼ y) × (greater x y ≡ y)) ⊎ ((y ≼ x) × (greater x y ≡ x))
 unfolding greater
-greater-is x y = elim (cond-is (atMost x y) y x) [
-  | inl h ↦ inl (atMost-true x y (h .0), h .1)
-  | inr h ↦ inr (atMost-false x y (h .0), h .1)
-]
+greater-is x y = cond-by (atMost x y) y x (atMost-true x y) (atMost-false x y)
 
 pub lesser-is : (x y : Fraction) → ((x ≼ y) × (lesser x y ≡ x)) ⊎ ((y ≼ x) × (lesser x y ≡ y))
 unfolding lesser
-lesser-is x y = elim (cond-is (atMost x y) x y) [
-  | inl h ↦ inl (atMost-true x y (h .0), h .1)
-  | inr h ↦ inr (atMost-false x y (h .0), h .1)
-]
+lesser-is x y = cond-by (atMost x y) x y (atMost-true x y) (atMost-false x y)

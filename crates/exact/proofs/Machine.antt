@@ -130,12 +130,6 @@ module _ {w : Width} {a b : ℤ} (fa : SFits w a) (fb : SFits w b) where
   pub op-known : {A : Type 0} (f : ℤ → ℤ → A) {t : A} → f (back w a) (back w b) ≡ t → f a b ≡ t
   op-known f e = sym (op-read f) ∙ e
 
-  pub op-fits : (f : ℤ → ℤ → ℤ) → SFits w (f a b) → SFits w (f (back w a) (back w b))
-  op-fits f h = subst (SFits w) (sym (op-read f)) h
-
-  pub op-back : (f : ℤ → ℤ → ℤ) (r : ℤ) → SFits w (f a b) → r ≡ f (back w a) (back w b) → back w r ≡ f a b
-  op-back f r h e = ap (back w) (e ∙ op-read f) ∙ toZ-ofZ h
-
 -- ---- the tests `==` and `!=`, which compare bits
 
 pub bits-inj : {w : Width} {a b : ℤ} → SFits w a → SFits w b → ofZ w a ≡ ofZ w b → a ≡ b

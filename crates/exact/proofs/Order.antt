@@ -74,9 +74,6 @@ nn-sq (negsuc a) = nn-pos (suc a * suc a)
 pub sub-nn : {a b : ℤ} → a ≤ℤ b → pos 0 ≤ℤ (b -ℤ a)
 sub-nn {a} {b} h = uncross (omega (arith, cross h, sub-parts b a))
 
-pub le-of-sub : {a b : ℤ} → pos 0 ≤ℤ (b -ℤ a) → a ≤ℤ b
-le-of-sub {a} {b} h = uncross (omega (arith, cross h, sub-parts b a))
-
 pub lt-nn : {a b : ℤ} → a <ℤ b → pos 0 ≤ℤ (b -ℤ a -ℤ pos 1)
 lt-nn {a} {b} h = uncross (omega (arith, cross-lt h, sub-parts b a, sub-parts (b -ℤ a) (pos 1)))
 
@@ -110,9 +107,6 @@ pub mul-anti-l : {a b c : ℤ} → c ≤ℤ pos 0 → a ≤ℤ b → (c *ℤ b) 
 mul-anti-l {a} {b} {c} k h =
     le-by (c *ℤ b) ((pos 0 -ℤ c) *ℤ (b -ℤ a)) (nn-mul (sub-nn k) (sub-nn h)) (ring 3 (λ a b c. c ⊗ a ≔ c ⊗ b ⊕ (# 0 ⊖ c) ⊗ (b ⊖ a)) tt a b c)
 
-pub mul-mono : {a b c d : ℤ} → pos 0 ≤ℤ a → a ≤ℤ b → pos 0 ≤ℤ c → c ≤ℤ d → (a *ℤ c) ≤ℤ (b *ℤ d)
-mul-mono ha h hc k = ≤ℤ-trans (mul-mono-r h hc) (mul-mono-l (≤ℤ-trans ha h) k)
-
 pub mul-mono-lt : {a b c : ℤ} → a <ℤ b → pos 0 <ℤ c → (a *ℤ c) <ℤ (b *ℤ c)
 mul-mono-lt {a} {b} {c} l k =
     lt-by (a *ℤ c) ((b -ℤ a -ℤ pos 1) *ℤ c +ℤ (c -ℤ pos 0 -ℤ pos 1)) (nn-add (nn-mul (lt-nn l) (<ℤ-le k)) (lt-nn k))
@@ -144,10 +138,6 @@ pos-reflect-lt h = omega (arith, cross-lt h)
 
 pub pos-sub : (a b : ℕ) → b ≤ a → pos (a - b) ≡ pos a -ℤ pos b
 pos-sub a b h = uncross-eq (pos (a - b)) (pos a -ℤ pos b) (omega (arith, sub-parts (pos a) (pos b)))
-
--- the truncated difference: a − b where that is not negative, else 0
-pub pos-monus-le : (a b : ℕ) (k : ℤ) → pos 0 ≤ℤ k → (pos a -ℤ pos b) ≤ℤ k → pos (a - b) ≤ℤ k
-pos-monus-le a b k h l = uncross (omega (arith, cross h, cross l, sub-parts (pos a) (pos b)))
 
 pub le-pos-monus : (a b : ℕ) → (pos a -ℤ pos b) ≤ℤ pos (a - b)
 le-pos-monus a b = uncross (omega (arith, sub-parts (pos a) (pos b)))

@@ -49,6 +49,3 @@ module _ (k a b c d : ℕ) (hb : 0 < b) (hd : 0 < d) (h : a * d ≤ c * b) where
       (le-trans (scaled k a b c d h)
       (le-trans (mul-le-mul-right b (le-ceil (k * c) d hd)) (le-of-eq (mul-right-comm (ceil (k * c) d) d b))))
       hd)
-
-pub floor-le-ceil : (x b : ℕ) → 0 < b → x / b ≤ ceil x b
-floor-le-ceil x b h = le-of-mul-le-mul-right {k = b} (le-trans (div-mul-le-self x b) (le-ceil x b h)) h

@@ -33,6 +33,11 @@ pub cond-is {ℓ} : {A : Type ℓ} (t : Bool) (x y : A) → ((t ≡ true) × (co
 cond-is true x y = inl (refl, refl)
 cond-is false x y = inr (refl, refl)
 
+-- with what the test says, either way
+pub cond-by {ℓ} : {A : Type ℓ} {P Q : Type 0} (t : Bool) (x y : A) → (t ≡ true → P) → (t ≡ false → Q) → (P × (cond t x y ≡ x)) ⊎ (Q × (cond t x y ≡ y))
+cond-by true x y f g = inl (f refl, refl)
+cond-by false x y f g = inr (g refl, refl)
+
 -- ---- integers: equality, and the order
 
 pub eqℤ-true : (a b : ℤ) → eqℤ a b ≡ true → a ≡ b
@@ -110,9 +115,6 @@ true-between lo hi n h k = true-both (le-leb lo n h) (le-leb n hi k)
 pub betweenℤ-true : (lo hi z : ℤ) → betweenℤ lo hi z ≡ true → (lo ≤ℤ z) × (z ≤ℤ hi)
 betweenℤ-true lo hi z e = let p = both-true (leZ lo z) (leZ z hi) e in (leZ-true lo z (p .0), leZ-true z hi (p .1))
 
-pub true-betweenℤ : (lo hi z : ℤ) → lo ≤ℤ z → z ≤ℤ hi → betweenℤ lo hi z ≡ true
-true-betweenℤ lo hi z h k = true-both (le-leZ lo z h) (le-leZ z hi k)
-
 -- ---- from −k to k
 
 pub within : (k : ℕ) (z : ℤ) → betweenℤ (negℤ (pos k)) (pos k) z ≡ leb (natAbs z) k
@@ -123,9 +125,6 @@ within (suc k) (negsuc n) = and-true (leb n k) ∙ sym (leb·suc-suc n k)
 
 pub within-small : (k : ℕ) (z : ℤ) → betweenℤ (negℤ (pos k)) (pos k) z ≡ true → Small k z
 within-small k z e = record { abs = leb-true (natAbs z) k (sym (within k z) ∙ e) }
-
-pub small-within : {k : ℕ} {z : ℤ} → Small k z → betweenℤ (negℤ (pos k)) (pos k) z ≡ true
-small-within {k} {z} h = within k z ∙ le-leb (natAbs z) k (h .abs)
 
 -- ---- from 1 to k
 

@@ -1,17 +1,14 @@
 -- An accepted file's trailer and nodes are as document 01 asks: `accepted-file`, from the check's answer.
 -- `accepted-file file e .tree .postfix` says that each node finds what it needs held, from `e : checkFile file ≡ Accepted n i`.
-use Prim.Native.Nat.{ℕ, _+_, _-_, _≤_}
-use native.Mathlib.Omega.{arith}
-use mathlib.Core.Path.{_≡_, refl}
+use Prim.Native.Nat.{ℕ}
+use mathlib.Core.Path.{_≡_}
 use mathlib.Core.List.{List, [], _∷_, map}
-use mathlib.Core.Bool.{Bool, true, false, cond}
 use borrow.Author.Tests.{eqb-true}
 use Rattle.part.specs.Questions.{firstNo}
-use Rattle.part.specs.Nodes.{Record, isPoint, heldAfter, recordQuestions, recordsQuestions}
+use Rattle.part.specs.Nodes.{Record, heldAfter, recordQuestions, recordsQuestions}
 use Rattle.part.specs.File.{iso, count, start, trailerQuestions, records, nodesFrom, nodes, fileQuestions, answerOf, checkFile}
-use Rattle.part.specs.Accepted.{Ready, Postfix, AcceptedFile}
+use Rattle.part.specs.Accepted.{Postfix, AcceptedFile}
 use Rattle.part.specs.declared.Checked.the-variants.{Accepted}
-use Rattle.part.specs.declared.Node.{Node}
 use Rattle.part.specs.declared.Verdict.the-variants.{Yes}
 use Rattle.part.proofs.Questions.{all-yes, yes-append}
 use Rattle.part.proofs.Records.{ready, nodes-length}
@@ -47,12 +44,3 @@ unfolding checkFile answerOf
 accepted-numbers file e =
     let f : Accepted (count file) (iso file) ≡ Accepted _ _ = rw (accepted file e) at e in
     (cc, cc)
-
--- no more than 64 values are ever held
-pub held-after-few : (n : Node) (held : ℕ) → Ready n held → held ≤ 64 → heldAfter n held ≤ 64
-unfolding heldAfter
-held-after-few n held r h = by (isPoint n) refl
-  where
-    by : (p : Bool) → isPoint n ≡ p → cond (isPoint n) (held + 1) (held - 1) ≤ 64
-    by true e = rw e (omega (arith, r .point e .1))
-    by false e = rw e (omega arith)

@@ -86,7 +86,7 @@ fn are_zero(file: &[u8], at: usize, n: usize) -> bool
 // ---- questions
 
 // A question before later ones, which are answered already.
-pub fn ask(number: u32, yes: bool, later: Verdict) -> Verdict
+fn ask(number: u32, yes: bool, later: Verdict) -> Verdict
     ensures { λ r. ⌜ r ≡ cond yes later (Verdict.No number) ⌝ }
 {
     if yes { later } else { Verdict::No(number) }

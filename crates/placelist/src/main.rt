@@ -6,17 +6,10 @@ use field::BoundsAnswer;
 use field::Position;
 use field::place_bounds;
 use io::read_full;
+use listing::file_start;
 use listing::print_number;
 use listing::print_signed;
 use part::i16_at;
-ghost use Prim.Native.Nat.{_≤_};
-
-// Where the file starts in an input of n bytes.
-fn file_start(n: usize) -> usize
-    ensures { λ r. ⌜ r ≤ n ⌝ }
-{
-    if n < 6 { n } else { 6 }
-}
 
 fn main() {
     // a place and one byte more than the longest file
@@ -27,7 +20,7 @@ fn main() {
         y: i16_at(&input[..], 2),
         z: i16_at(&input[..], 4),
     };
-    match place_bounds(&input[file_start(n)..n], place) {
+    match place_bounds(&input[file_start(n, 6)..n], place) {
         BoundsAnswer::Refused(number) => print_number(b"refused ", number as u64, b'\n'),
         BoundsAnswer::Bounded(b) => {
             print_signed(b"bounds ", b.low, b' ');

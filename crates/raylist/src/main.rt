@@ -9,18 +9,12 @@ use field::Position;
 use field::Ray;
 use io::read_full;
 use io::write_all;
+use listing::file_start;
 use listing::print_number;
 use part::i16_at;
 use part::u16_at;
 ghost use Prim.Native.Nat.{_+_, _≤_, _<_};
 ghost use lib.ListN.{length};
-
-// Where the file starts in an input of n bytes.
-fn file_start(n: usize) -> usize
-    ensures { λ r. ⌜ r ≤ n ⌝ }
-{
-    if n < 14 { n } else { 14 }
-}
 
 // The place whose three numbers stand from a byte on.
 fn position_at(input: &[u8], at: usize) -> Position
@@ -92,7 +86,7 @@ fn main() {
     };
     let budget = u16_at(&input[..], 12) as u32;
     let mut marks = [3; 1024];
-    let answer = full_cast(&input[file_start(n)..n], ray, budget, &mut marks[..]);
+    let answer = full_cast(&input[file_start(n, 14)..n], ray, budget, &mut marks[..]);
     print_runs(&marks[..]);
     print_answer(answer);
 }

@@ -16,23 +16,8 @@ Inv-loop file at n left₀ i₀ left i = (i + left ≤ length file) × (zeros fi
 abbrev μ-loop : tie.MeasureT-loop
 μ-loop file at n left₀ i₀ left i = left
 
-returns : tie.Need-returns Inv-loop μ-loop
-returns c =
-    let l = c .before .before .before .loop in
-    let s = zeros-step (c .before .before .before .before .args .file .now) (l .i) (l .left) (c .before .before .loop-test .taken) in
-    rw (← l .inv .1, s, ne-eqb _ _ (c .if1 .taken))
-
-loop-again : tie.Need-loop-again Inv-loop μ-loop
-loop-again c =
-    let l = c .before .before .before .loop in
-    let s = zeros-step (c .before .before .before .before .args .file .now) (l .i) (l .left) (c .before .before .loop-test .taken) in
-    (omega arith, rw (← l .inv .1, s, eq-eqb _ _ (c .if1 .left)))
-
-returns-2 : tie.Need-returns-2 Inv-loop μ-loop
-unfolding zeros hasBytes
-returns-2 c = let e : c .before .loop .left ≡ 0 = omega arith in rw (← c .before .loop .inv .1, e)
-
 pub are-zero-spec : {M : Type 1} → statement M
+unfolding zeros hasBytes
 are-zero-spec =
     tie.close
     (tie.spec
@@ -40,9 +25,15 @@ are-zero-spec =
     μ-loop
     (λ c. search needs)
     (λ c. omega arith)
-    returns
+    (λ c.
+    let l = c .before .before .before .loop in
+    let s = zeros-step (c .before .before .before .before .args .file .now) (l .i) (l .left) (c .before .before .loop-test .taken) in
+    rw (← l .inv .1, s, ne-eqb _ _ (c .if1 .taken)))
     (λ c. omega arith)
     (λ c. omega arith)
     (λ c. omega arith)
-    loop-again
-    returns-2)
+    (λ c.
+    let l = c .before .before .before .loop in
+    let s = zeros-step (c .before .before .before .before .args .file .now) (l .i) (l .left) (c .before .before .loop-test .taken) in
+    (omega arith, rw (← l .inv .1, s, eq-eqb _ _ (c .if1 .left))))
+    (λ c. let e : c .before .loop .left ≡ 0 = omega arith in rw (← c .before .loop .inv .1, e)))

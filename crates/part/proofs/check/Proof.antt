@@ -10,24 +10,17 @@ use Rattle.part.proofs.check.Tie as tie
 trailer : (c : tie.After-enum-told) → Trailer (c .before .before .before .before .args .file .now)
 trailer c = accepted-trailer _ (sym (c .before .before .file-questions .ensures) ∙ c .enum-told .given .1)
 
-returns : tie.Need-returns
-unfolding checkFile answerOf
-returns c = rw (← c .before .before .before .file-questions .ensures, c .before .number .given .1)
-
-returns-2 : tie.Need-returns-2
-unfolding checkFile answerOf
-returns-2 c =
-    let t = c .before .before in
-    rw (← t .before .before .file-questions .ensures, t .enum-told .given .1, c .before .count-of .ensures, c .iso-of .ensures)
-
 pub check-spec : {M : Type 1} → statement M
+unfolding checkFile answerOf
 check-spec =
     tie.close
     (tie.spec
     (λ c κs. search needs)
     (λ c. search needs)
-    returns
+    (λ c. rw (← c .before .before .before .file-questions .ensures, c .before .number .given .1))
     (λ c. search needs)
     (λ c κs. trailer c)
     (λ c κs. omega (arith, trailer (c .before)))
-    returns-2)
+    (λ c.
+    let t = c .before .before in
+    rw (← t .before .before .file-questions .ensures, t .enum-told .given .1, c .before .count-of .ensures, c .iso-of .ensures)))

@@ -11,14 +11,6 @@ use Rattle.part.proofs.file_questions.Tie as tie
 trailer : (c : tie.After-enum-told) → Trailer (c .before .before .before .before .args .file .now)
 trailer c = trailer-facts _ (sym (c .before .before .trailer-questions .ensures) ∙ c .enum-told .given .1)
 
-returns : tie.Need-returns
-unfolding fileQuestions next
-returns c = rw (firstNo-append, ← c .before .before .before .trailer-questions .ensures, c .before .number .given .1)
-
-records-questions-requires : tie.Need-records-questions-requires
-records-questions-requires c κs =
-    rw (c .start-of .ensures, c .before .count-of .ensures) (omega (arith, records-end (trailer (c .before .before))))
-
 returns-2 : tie.Need-returns-2
 unfolding fileQuestions records next
 returns-2 c =
@@ -33,14 +25,15 @@ returns-2 c =
     (c .records-questions .ensures)
 
 pub file-questions-spec : {M : Type 1} → statement M
+unfolding fileQuestions next
 file-questions-spec =
     tie.close
     (tie.spec
     (λ c κs. search needs)
     (λ c. search needs)
-    returns
+    (λ c. rw (firstNo-append, ← c .before .before .before .trailer-questions .ensures, c .before .number .given .1))
     (λ c. search needs)
     (λ c κs. trailer c)
     (λ c κs. trailer (c .before))
-    records-questions-requires
+    (λ c κs. rw (c .start-of .ensures, c .before .count-of .ensures) (omega (arith, records-end (trailer (c .before .before)))))
     returns-2)

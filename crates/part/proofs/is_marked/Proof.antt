@@ -9,15 +9,8 @@ use Rattle.part.specs.File.{marked}
 use Rattle.part.proofs.is_marked.Statement.{statement}
 use Rattle.part.proofs.is_marked.Tie as tie
 
-returns : tie.Need-returns
-unfolding marked hasBytes
-returns c =
-    let at = length (c .before .before .before .before .before .before .before .before .args .file .now) - 4 in
-    let third : at + 1 + 1 ≡ at + 2 = omega arith in
-    let fourth : at + 2 + 1 ≡ at + 3 = omega arith in
-    rw (c .both3 .ensures, c .before .both2 .ensures, c .before .before .both .ensures, third, fourth, and-true)
-
 pub is-marked-spec : {M : Type 1} → statement M
+unfolding marked hasBytes
 is-marked-spec =
     tie.close
     (tie.spec
@@ -32,4 +25,8 @@ is-marked-spec =
     (λ c κs. search needs)
     (λ c κs. search needs)
     (λ c κs. search needs)
-    returns)
+    (λ c.
+    let at = length (c .before .before .before .before .before .before .before .before .args .file .now) - 4 in
+    let third : at + 1 + 1 ≡ at + 2 = omega arith in
+    let fourth : at + 2 + 1 ≡ at + 3 = omega arith in
+    rw (c .both3 .ensures, c .before .both2 .ensures, c .before .before .both .ensures, third, fourth, and-true)))

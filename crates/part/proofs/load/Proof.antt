@@ -24,14 +24,6 @@ trailer c = accepted-trailer _ (yes-to-all c)
 fits : {file : List ℕ} (out : List ℤ) → Trailer file → length out ≡ 3066 → 6 * count file ≤ length out
 fits out t e = omega (arith, count-high t)
 
-put-nodes-requires : tie.Need-put-nodes-requires
-put-nodes-requires c κs =
-    let t = c .before .before .before in
-    let out = t .before .before .before .before .args .out .now in
-    let e : length out ≡ 3066 = search needs in
-    rw (c .before .start-of .ensures, c .before .before .count-of .ensures)
-    (omega (arith, records-end (trailer t)), fits out (trailer t) e)
-
 returns : tie.Need-returns
 unfolding loaded handedOver nodes
 returns c =
@@ -44,13 +36,8 @@ returns c =
           (nodes-stored (a .file .now) (count (a .file .now)) (start (a .file .now)) (a .out .now) (fits (a .out .now) (trailer t) e))),
     )
 
-returns-2 : tie.Need-returns-2
-unfolding loaded handedOver
-returns-2 c =
-    let k = c .before .before in
-    (k .check .ensures, rw (refused (k .before .before .args .file .now) (sym (k .check .ensures) ∙ c .enum-told2 .given .1)))
-
 pub load-spec : {M : Type 1} → statement M
+unfolding loaded handedOver
 load-spec =
     tie.close
     (tie.spec
@@ -58,7 +45,14 @@ load-spec =
     (λ c. search needs)
     (λ c κs. trailer c)
     (λ c κs. trailer (c .before))
-    put-nodes-requires
+    (λ c κs.
+    let t = c .before .before .before in
+    let out = t .before .before .before .before .args .out .now in
+    let e : length out ≡ 3066 = search needs in
+    rw (c .before .start-of .ensures, c .before .before .count-of .ensures)
+    (omega (arith, records-end (trailer t)), fits out (trailer t) e))
     (λ c. search needs)
     returns
-    returns-2)
+    (λ c.
+    let k = c .before .before in
+    (k .check .ensures, rw (refused (k .before .before .args .file .now) (sym (k .check .ensures) ∙ c .enum-told2 .given .1)))))

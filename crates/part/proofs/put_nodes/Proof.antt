@@ -40,14 +40,8 @@ loop-again c =
           ∙ sym (numbers-step file (l .left) (l .at) (l .out) (l .to) (b .loop-test .taken)) ∙ l .inv .3,
     )
 
-returns : tie.Need-returns Inv-loop μ-loop
-unfolding nodesFrom recordsFrom numbers
-returns c =
-    let l = c .before .loop in
-    let e : l .left ≡ 0 = omega arith in
-    rw e at (l .inv .3)
-
 pub put-nodes-spec : {M : Type 1} → statement M
+unfolding nodesFrom recordsFrom numbers
 put-nodes-spec =
     tie.close
     (tie.spec
@@ -62,4 +56,7 @@ put-nodes-spec =
     (λ c. omega arith)
     loop-again
     (λ c. search needs)
-    returns)
+    (λ c.
+    let l = c .before .loop in
+    let e : l .left ≡ 0 = omega arith in
+    rw e at (l .inv .3)))

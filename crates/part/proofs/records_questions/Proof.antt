@@ -20,40 +20,8 @@ Inv-loop file n first left₀ at₀ held₀ left at held =
 abbrev μ-loop : tie.MeasureT-loop
 μ-loop file n first left₀ at₀ held₀ left at held = left
 
-returns : tie.Need-returns Inv-loop μ-loop
-unfolding next
-returns c =
-    let r = c .before .before .before in
-    let l = r .before .before .before .loop in
-    let s = records-step (r .before .before .before .before .before .args .file .now) (l .left) (l .at) (l .held) (r .before .before .loop-test .taken) in
-    rw (← l .inv .1, s, ← r .record-questions .ensures, c .before .number .given .1)
-
-held-after-requires : tie.Need-held-after-requires Inv-loop μ-loop
-unfolding recordAt
-held-after-requires c κs =
-    let q = c .before .before in
-    let file = q .before .before .before .before .before .args .file .now in
-    let at = q .before .before .before .loop .at in
-    rw (q .before .node-at .ensures) (ready (recordAt file at) _ (sym (q .record-questions .ensures) ∙ c .enum-told .given .1))
-
-loop-again : tie.Need-loop-again Inv-loop μ-loop
-unfolding next
-loop-again c =
-    let r = c .before .before .before in
-    let l = r .before .before .before .loop in
-    let s = records-step (r .before .before .before .before .before .args .file .now) (l .left) (l .at) (l .held) (r .before .before .loop-test .taken) in (
-      omega arith,
-      rw (← l .inv .1, s, ← r .record-questions .ensures, c .before .enum-told .given .1, c .held-after .ensures, r .before .node-at .ensures),
-    )
-
-returns-2 : tie.Need-returns-2 Inv-loop μ-loop
-unfolding recordsQuestions recordsFrom firstNo
-returns-2 c =
-    let l = c .before .before .loop in
-    let e : l .left ≡ 0 = omega arith in
-    rw (← l .inv .1, e) (c .ask .ensures)
-
 pub records-questions-spec : {M : Type 1} → statement M
+unfolding next recordAt recordsQuestions recordsFrom firstNo
 records-questions-spec =
     tie.close
     (tie.spec
@@ -63,12 +31,29 @@ records-questions-spec =
     (λ c κs. omega arith)
     (λ c κs. (omega arith, c .node-at .ensures))
     (λ c. search needs)
-    returns
+    (λ c.
+    let r = c .before .before .before in
+    let l = r .before .before .before .loop in
+    let s = records-step (r .before .before .before .before .before .args .file .now) (l .left) (l .at) (l .held) (r .before .before .loop-test .taken) in
+    rw (← l .inv .1, s, ← r .record-questions .ensures, c .before .number .given .1))
     (λ c. search needs)
-    held-after-requires
+    (λ c κs.
+    let q = c .before .before in
+    let file = q .before .before .before .before .before .args .file .now in
+    let at = q .before .before .before .loop .at in
+    rw (q .before .node-at .ensures) (ready (recordAt file at) _ (sym (q .record-questions .ensures) ∙ c .enum-told .given .1)))
     (λ c. omega arith)
     (λ c. omega arith)
     (λ c. omega arith)
-    loop-again
+    (λ c.
+    let r = c .before .before .before in
+    let l = r .before .before .before .loop in
+    let s = records-step (r .before .before .before .before .before .args .file .now) (l .left) (l .at) (l .held) (r .before .before .loop-test .taken) in (
+      omega arith,
+      rw (← l .inv .1, s, ← r .record-questions .ensures, c .before .enum-told .given .1, c .held-after .ensures, r .before .node-at .ensures),
+    ))
     (λ c κs. search needs)
-    returns-2)
+    (λ c.
+    let l = c .before .before .loop in
+    let e : l .left ≡ 0 = omega arith in
+    rw (← l .inv .1, e) (c .ask .ensures)))

@@ -13,10 +13,6 @@ use Rattle.part.proofs.trailer_questions.Tie as tie
 long : (c : tie.Else1) → 24 ≤ length (c .before .before .before .args .file .now)
 long c = between-true 24 65536 _ (sym (c .before .is-between .ensures) ∙ not-false _ (c .if1 .left)) .0
 
-returns : tie.Need-returns
-unfolding trailerQuestions firstNo
-returns c = rw (← c .before .is-between .ensures, not-true (c .before .is-between .result) (c .if1 .taken))
-
 returns-2 : tie.Need-returns-2
 unfolding trailerQuestions firstNo
 returns-2 c =
@@ -41,11 +37,12 @@ returns-2 c =
     )
 
 pub trailer-questions-spec : {M : Type 1} → statement M
+unfolding trailerQuestions firstNo
 trailer-questions-spec =
     tie.close
     (tie.spec
     (λ c κs. search needs)
-    returns
+    (λ c. rw (← c .before .is-between .ensures, not-true (c .before .is-between .result) (c .if1 .taken)))
     (λ c κs. omega (arith, long c))
     (λ c κs. omega (arith, long (c .before)))
     (λ c κs. omega (arith, long (c .before .before)))

@@ -3,11 +3,8 @@ use borrow.Author.Needs.{needs}
 use Rattle.part.proofs.u16_at.Statement.{statement}
 use Rattle.part.proofs.u16_at.Tie as tie
 
-returns : tie.Need-returns
-unfolding u16
-returns c = search needs
-
 pub u16-at-spec : {M : Type 1} → statement M
+unfolding u16
 u16-at-spec =
     tie.close
     (tie.spec
@@ -18,4 +15,4 @@ u16-at-spec =
     (λ c κs. search needs)
     (λ c. search needs)
     (λ c. search needs)
-    returns)
+    (λ c. search needs))

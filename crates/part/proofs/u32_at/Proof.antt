@@ -3,11 +3,8 @@ use borrow.Author.Needs.{needs}
 use Rattle.part.proofs.u32_at.Statement.{statement}
 use Rattle.part.proofs.u32_at.Tie as tie
 
-returns : tie.Need-returns
-unfolding u32
-returns c = search needs
-
 pub u32-at-spec : {M : Type 1} → statement M
+unfolding u32
 u32-at-spec =
     tie.close
     (tie.spec
@@ -16,4 +13,4 @@ u32-at-spec =
     (λ c κs. search needs)
     (λ c. search needs)
     (λ c. search needs)
-    returns)
+    (λ c. search needs))
