@@ -1,0 +1,246 @@
+/* parts FOLDER writes three part files into FOLDER: pad.part, a lattice pad;
+ * core.part, a filter core; k.part, one point. All numbers are whole, lengths
+ * in steps of 1/64 mm, so the bytes are the same everywhere. */
+#include <stdint.h>
+#include <stdio.h>
+
+enum { POINT = 1, SUM = 2, GREATER = 3 };
+enum { RECORD = 12, TRAILER = 12, MOST_BYTES = 6144 };
+
+struct part {
+    uint8_t bytes[MOST_BYTES]; /* 511 records and the trailer */
+    size_t length;
+};
+
+static void put16(struct part *part, int number)
+{
+    part->bytes[part->length++] = (uint8_t)number;
+    part->bytes[part->length++] = (uint8_t)((uint16_t)number >> 8);
+}
+
+/* Each put_ function below leaves one held value more. */
+
+static void put_point(struct part *part, int r, int x, int y, int z, int w)
+{
+    put16(part, POINT);
+    put16(part, r);
+    put16(part, x);
+    put16(part, y);
+    put16(part, z);
+    put16(part, w);
+}
+
+/* Replaces the last two held values by one. */
+static void join(struct part *part, int kind)
+{
+    int i;
+
+    part->bytes[part->length++] = (uint8_t)kind;
+    for (i = 1; i < RECORD; i++)
+        part->bytes[part->length++] = 0;
+}
+
+static void end_part(struct part *part, int iso)
+{
+    int distance = (int)part->length + TRAILER;
+
+    put16(part, iso);
+    put16(part, 1);
+    put16(part, distance);
+    put16(part, 0);
+    put16(part, 0x5254);
+    put16(part, 0x4545);
+}
+
+/* The pad: two layers of four bars each way, with a post at each crossing. The
+ * points of a bar are summed. Of the bars the greater is taken, so crossings do
+ * not swell. A post is one point between the layers, summed with the bars. */
+
+enum { PAD_ISO = 30, BAR_R = 375, BAR_W = 20, POST_R = 188, POST_W = 20 };
+enum { CELL = 500, LAYER = 200 };
+
+/* The place of bar n of four. */
+static int bar_place(int n)
+{
+    return n * CELL - 3 * CELL / 2;
+}
+
+/* Bars 0 to 7 are the lower layer's; four along x, then four along y. */
+static void put_bar(struct part *part, int n)
+{
+    int along_x = n / 4 % 2 == 0;
+    int across = bar_place(n % 4);
+    int z = n < 8 ? -LAYER : LAYER;
+    int i;
+
+    for (i = 0; i < 8; i++) {
+        int along = (2 * i - 7) * CELL / 4;
+
+        put_point(part, BAR_R, along_x ? along : across, along_x ? across : along, z, BAR_W);
+        if (i > 0)
+            join(part, SUM);
+    }
+}
+
+static void put_bars(struct part *part)
+{
+    int n;
+
+    for (n = 0; n < 16; n++) {
+        put_bar(part, n);
+        if (n > 0)
+            join(part, GREATER);
+    }
+}
+
+static void put_posts(struct part *part)
+{
+    int n;
+
+    for (n = 0; n < 16; n++) {
+        put_point(part, POST_R, bar_place(n % 4), bar_place(n / 4), 0, POST_W);
+        if (n > 0)
+            join(part, SUM);
+    }
+}
+
+static void make_pad(struct part *part)
+{
+    put_bars(part);
+    put_posts(part);
+    join(part, SUM);
+    end_part(part, PAD_ISO);
+}
+
+/* The core: a body of four layers, a collar at its foot, the greater of the
+ * two, and seven bores of negative weight, summed with it. */
+
+enum { CORE_ISO = 16, LAYERS = 4, FOOT = -390, RISE = 260 };
+enum { BORE_R = 160, BORE_W = -120, BORE_LAYERS = 9, BORE_FOOT = -560, BORE_RISE = 140 };
+
+/* Points of one radius at a distance around the axis. In 24ths of a turn: the
+ * first one's angle, and the angle from one to the next. */
+struct ring {
+    int distance, first, every, r;
+};
+
+static const struct ring inner = {250, 2, 4, 385};
+static const struct ring outer = {500, 0, 1, 385};
+static const struct ring collar = {700, 0, 1, 360};
+static const struct ring bores = {360, 0, 4, BORE_R};
+
+/* A thousand times the cosine of an angle that is at least 0. */
+static int cosine(int angle)
+{
+    static const int quarter[] = {1000, 966, 866, 707, 500, 259, 0};
+
+    angle %= 24;
+    if (angle > 12)
+        angle = 24 - angle;
+    return angle <= 6 ? quarter[angle] : -quarter[12 - angle];
+}
+
+static int sine(int angle)
+{
+    return cosine(angle + 18);
+}
+
+static void put_ring(struct part *part, const struct ring *ring, int z, int w)
+{
+    int angle;
+
+    for (angle = ring->first; angle < 24; angle += ring->every) {
+        int x = ring->distance * cosine(angle) / 1000;
+        int y = ring->distance * sine(angle) / 1000;
+
+        put_point(part, ring->r, x, y, z, w);
+        if (angle > ring->first)
+            join(part, SUM);
+    }
+}
+
+/* The first and the last layer weigh more, or the ends would be round. */
+static void put_body(struct part *part)
+{
+    int i;
+
+    for (i = 0; i < LAYERS; i++) {
+        int at_end = i == 0 || i == LAYERS - 1;
+
+        put_ring(part, &inner, FOOT + i * RISE, at_end ? 13 : 10);
+        put_ring(part, &outer, FOOT + i * RISE, at_end ? 8 : 6);
+        join(part, SUM);
+        if (i > 0)
+            join(part, SUM);
+    }
+}
+
+static void put_bores(struct part *part)
+{
+    int i;
+
+    for (i = 0; i < BORE_LAYERS; i++) {
+        int z = BORE_FOOT + i * BORE_RISE;
+
+        put_point(part, BORE_R, 0, 0, z, BORE_W);
+        put_ring(part, &bores, z, BORE_W);
+        join(part, SUM);
+        if (i > 0)
+            join(part, SUM);
+    }
+}
+
+static void make_core(struct part *part)
+{
+    put_body(part);
+    put_ring(part, &collar, FOOT, 12);
+    join(part, GREATER);
+    put_bores(part);
+    join(part, SUM);
+    end_part(part, CORE_ISO);
+}
+
+/* File K of the worked rays. */
+static void make_k(struct part *part)
+{
+    put_point(part, 512, 0, 0, 0, 4);
+    end_part(part, 1);
+}
+
+static int write_file(const char *path, const struct part *part)
+{
+    FILE *file = fopen(path, "wb");
+    size_t written;
+
+    if (file == NULL)
+        return 0;
+    written = fwrite(part->bytes, 1, part->length, file);
+    return fclose(file) == 0 && written == part->length;
+}
+
+static int write_part(const char *folder, const char *name, void (*make)(struct part *))
+{
+    static struct part part;
+    char path[4096];
+    int length = snprintf(path, sizeof path, "%s/%s", folder, name);
+
+    part.length = 0;
+    make(&part);
+    if (length < 0 || (size_t)length >= sizeof path || !write_file(path, &part)) {
+        fprintf(stderr, "parts: cannot write %s/%s\n", folder, name);
+        return 0;
+    }
+    return 1;
+}
+
+int main(int argc, char **argv)
+{
+    if (argc != 2) {
+        fprintf(stderr, "usage: parts FOLDER\n"
+                        "Writes pad.part, core.part and k.part into FOLDER.\n");
+        return 1;
+    }
+    return !(write_part(argv[1], "pad.part", make_pad)
+             && write_part(argv[1], "core.part", make_core)
+             && write_part(argv[1], "k.part", make_k));
+}

@@ -1,0 +1,237 @@
+/* A host: slice PART Z PLANE.png DEPTH.png casts rays through the part file
+ * PART and writes two pictures of it. All arithmetic is in whole numbers, so
+ * the pictures are the same on every machine. Lengths are in steps of 1/64 mm,
+ * coordinates -2,047 to 2,047. */
+#include "fenalukki.h"
+#include "png.h"
+
+#include <stdio.h>
+#include <stdlib.h>
+
+/* An answer below this is a refusal number. */
+enum { FIRST_ANSWER = 65536 };
+
+struct part {
+    uint8_t bytes[65537]; /* one more than a part file has, so a longer one is refused */
+    size_t length;
+};
+
+static int read_part(const char *path, struct part *part)
+{
+    FILE *file = fopen(path, "rb");
+    int failed = 1;
+
+    if (file != NULL) {
+        part->length = fread(part->bytes, 1, sizeof part->bytes, file);
+        failed = ferror(file);
+        fclose(file);
+    }
+    if (failed)
+        fprintf(stderr, "slice: cannot read %s\n", path);
+    return !failed;
+}
+
+static int write_picture(const char *path, uint32_t width, uint32_t height, int bits,
+                         const uint8_t *rows)
+{
+    int written = png_write(path, width, height, bits, rows);
+
+    if (!written)
+        fprintf(stderr, "slice: cannot write %s\n", path);
+    return written;
+}
+
+static void print_refusal(const char *call, unsigned long number)
+{
+    fprintf(stderr, "slice: %s refused %lu\n", call, number);
+}
+
+/* The plane: x and y from -1,024 to 1,024. A row of pixels is a column along x
+ * at the row's middle. A tick is two steps long and a row two steps high. */
+
+enum { PLANE_END = 1024, PLANE_ROWS = 1024, ROW_BYTES = 128 };
+
+/* A column has its first tick in the lowest bit, a picture its first pixel in
+ * the highest. Returns how many bits are 1. */
+static unsigned long reverse_bits(uint8_t *byte)
+{
+    unsigned reversed = 0;
+    unsigned long ones = 0;
+    int i;
+
+    for (i = 0; i < 8; i++) {
+        unsigned bit = *byte >> i & 1u;
+
+        reversed = reversed << 1 | bit;
+        ones += bit;
+    }
+    *byte = (uint8_t)reversed;
+    return ones;
+}
+
+static unsigned long reverse_row(uint8_t *row)
+{
+    unsigned long ones = 0;
+    int i;
+
+    for (i = 0; i < ROW_BYTES; i++)
+        ones += reverse_bits(row + i);
+    return ones;
+}
+
+static int write_plane(const struct part *part, int32_t z, const char *path)
+{
+    static uint8_t rows[PLANE_ROWS][ROW_BYTES];
+    unsigned long probes = 0, solid = 0;
+    int i;
+
+    for (i = 0; i < PLANE_ROWS; i++) {
+        int32_t y = PLANE_END - 1 - 2 * i;
+        uint32_t answer = fenalukki_column(part->bytes, part->length, -PLANE_END, y, z,
+                                           PLANE_END, y, z, rows[i], ROW_BYTES);
+
+        if (answer < FIRST_ANSWER) {
+            print_refusal("column", answer);
+            return 0;
+        }
+        probes += answer % FIRST_ANSWER;
+        solid += reverse_row(rows[i]);
+    }
+    if (!write_picture(path, 8 * ROW_BYTES, PLANE_ROWS, 1, rows[0]))
+        return 0;
+    printf("%s: plane z %ld, %d columns, %lu probes, %lu ticks solid\n", path, (long)z,
+           PLANE_ROWS, probes, solid);
+    return 1;
+}
+
+/* The depth image: the first hits of parallel rays, seen from above and from
+ * one side. The nearest hit is white, the farthest dark grey, clear black. */
+
+enum { WIDTH = 480, HEIGHT = 400, PIXEL = 5, PIXELS = WIDTH * HEIGHT };
+enum { BUDGET = 2047, ANSWER_CLEAR = 3, NO_HIT = 1024 };
+enum { WHITE = 255, DARK = 40, BLACK = 0 };
+
+/* The picture's axes, AXIS long and at right angles to each other. A ray begins
+ * REACH * away before the picture's plane and ends as far behind it. */
+enum { AXIS = 145, REACH = 9 };
+static const int32_t right[3] = {116, 87, 0};
+static const int32_t up[3] = {-60, 80, 105};
+static const int32_t away[3] = {-63, 84, -100};
+
+struct depths {
+    uint16_t ticks[PIXELS]; /* the hit's, or NO_HIT */
+    uint16_t nearest, farthest;
+    unsigned long probes, hits;
+};
+
+static int32_t round_quotient(int32_t number, int32_t divisor)
+{
+    return (number >= 0 ? number + divisor / 2 : number - divisor / 2) / divisor;
+}
+
+/* The ray through the middle of a pixel, moved to the nearest whole steps. */
+static void set_ray(int pixel, int32_t a[3], int32_t b[3])
+{
+    int32_t rightwards = PIXEL * (2 * (pixel % WIDTH) + 1 - WIDTH); /* half steps */
+    int32_t upwards = PIXEL * (HEIGHT - 1 - 2 * (pixel / WIDTH));
+    int i;
+
+    for (i = 0; i < 3; i++) {
+        int32_t middle = round_quotient(rightwards * right[i] + upwards * up[i], 2 * AXIS);
+
+        a[i] = middle - REACH * away[i];
+        b[i] = middle + REACH * away[i];
+    }
+}
+
+static void count_hit(struct depths *depths, uint16_t tick)
+{
+    depths->hits++;
+    if (tick < depths->nearest)
+        depths->nearest = tick;
+    if (tick > depths->farthest)
+        depths->farthest = tick;
+}
+
+/* An answer is k * 2^32 + tick * 65,536 + probes. The budget is always enough,
+ * so none is spent. */
+static int cast_depths(const struct part *part, struct depths *depths)
+{
+    int i;
+
+    for (i = 0; i < PIXELS; i++) {
+        int32_t a[3], b[3];
+        uint64_t answer;
+
+        set_ray(i, a, b);
+        answer = fenalukki_first_hit(part->bytes, part->length, a[0], a[1], a[2],
+                                     b[0], b[1], b[2], BUDGET);
+        if (answer < FIRST_ANSWER) {
+            print_refusal("first hit", (unsigned long)answer);
+            return 0;
+        }
+        depths->probes += (unsigned long)(answer & 0xffff);
+        depths->ticks[i] = NO_HIT;
+        if (answer >> 32 != ANSWER_CLEAR) {
+            depths->ticks[i] = (uint16_t)(answer >> 16 & 0xffff);
+            count_hit(depths, depths->ticks[i]);
+        }
+    }
+    return 1;
+}
+
+static void shade(const struct depths *depths, uint8_t *greys)
+{
+    int range = depths->farthest - depths->nearest + 1;
+    int i;
+
+    for (i = 0; i < PIXELS; i++) {
+        int behind = depths->ticks[i] - depths->nearest;
+
+        greys[i] = depths->ticks[i] == NO_HIT
+                       ? BLACK : (uint8_t)(WHITE - behind * (WHITE - DARK) / range);
+    }
+}
+
+static int write_depth(const struct part *part, const char *path)
+{
+    static struct depths depths;
+    static uint8_t greys[PIXELS];
+
+    depths.nearest = NO_HIT;
+    if (!cast_depths(part, &depths))
+        return 0;
+    shade(&depths, greys);
+    if (!write_picture(path, WIDTH, HEIGHT, 8, greys))
+        return 0;
+    printf("%s: depth, %d first hits, %lu probes, %lu rays hit\n", path, PIXELS,
+           depths.probes, depths.hits);
+    return 1;
+}
+
+static int read_number(const char *word, int32_t *number)
+{
+    char *end;
+    long value = strtol(word, &end, 10);
+
+    *number = (int32_t)value;
+    return end != word && *end == '\0' && *number == value;
+}
+
+int main(int argc, char **argv)
+{
+    static struct part part;
+    int32_t z;
+
+    if (argc != 5 || !read_number(argv[2], &z)) {
+        fprintf(stderr,
+                "usage: slice PART Z PLANE.png DEPTH.png\n"
+                "PLANE.png: the plane at height Z, white where a tick is inside or crossing.\n"
+                "DEPTH.png: the part seen obliquely, the brighter the nearer.\n"
+                "Status 1 where a call is refused, with its number, or a file cannot be\n"
+                "read or written.\n");
+        return 1;
+    }
+    return !(read_part(argv[1], &part) && write_plane(&part, z, argv[3])
+             && write_depth(&part, argv[4]));
+}
