@@ -158,27 +158,44 @@ pub fn cancelling(random: &mut SplitMix64) -> Part {
     }
 }
 
-/// Points on a grid of the sizes given, 360 steps apart about the origin and
-/// wide enough to meet: summed layer by layer, and the greater of the layers
-/// taken.
+/// Points on a grid, 360 steps apart and wide enough to meet.
 pub fn lattice(sizes: [i16; 3]) -> Part {
-    let at = |i: i16, size: i16| 360 * i - 180 * (size - 1);
+    grid(sizes, 360, 300)
+}
+
+/// A strut along y, 2 steps from point to point and less than 3 thick, and a
+/// ray along x for each step of it. The rays' ticks are just under 4 steps
+/// long, and one begins in the middle of the strut.
+pub fn strut(points: i16) -> (Part, Vec<Ray>) {
+    let half = i32::from(points) - 1;
+    let ray = |y| Ray {
+        a: [-REACH, y, 0],
+        b: [REACH, y, 0],
+    };
+    let rays = (-half..=half).map(ray);
+    (grid([1, points, 1], 2, 2), rays.collect())
+}
+
+/// Points of one radius on a grid of the sizes given, an even number of steps
+/// apart about the origin: summed layer by layer, and the greater of the
+/// layers taken.
+fn grid([width, depth, height]: [i16; 3], apart: i16, r: u16) -> Part {
+    let at = |i: i16, size: i16| apart * i - apart / 2 * (size - 1);
+    let layer = width * depth;
     let mut nodes = Vec::new();
-    for k in 0..sizes[2] {
-        for (j, i) in (0..sizes[1]).flat_map(|j| (0..sizes[0]).map(move |i| (j, i))) {
-            nodes.push(Node {
-                kind: Kind::Point,
-                r: 300,
-                x: at(i, sizes[0]),
-                y: at(j, sizes[1]),
-                z: at(k, sizes[2]),
-                w: 4,
-            });
-            if i > 0 || j > 0 {
-                nodes.push(operator(Kind::Sum));
-            }
+    for n in 0..layer * height {
+        nodes.push(Node {
+            kind: Kind::Point,
+            r,
+            x: at(n % width, width),
+            y: at(n % layer / width, depth),
+            z: at(n / layer, height),
+            w: 4,
+        });
+        if n % layer > 0 {
+            nodes.push(operator(Kind::Sum));
         }
-        if k > 0 {
+        if n % layer == layer - 1 && n >= layer {
             nodes.push(operator(Kind::Greater));
         }
     }

@@ -11,7 +11,8 @@ use reference::cast::{Column, FirstHit, FullCast, Mark};
 use reference::field::Ray;
 use reference::generate::fault;
 use reference::part::FileBuilder;
-use std::path::Path;
+use std::fs;
+use std::path::{Path, PathBuf};
 use std::process::Command;
 use std::thread;
 use worked::{at_y, file_k, AXIS};
@@ -209,26 +210,40 @@ fn several_threads_on_one_file() {
     full_cast(&file, &ray, 2047, 1024);
 }
 
-/// What `examples/host.c` prints, compiled against the header without a
+/// The program `examples/column.c`, compiled against the header without a
 /// warning.
-#[test]
-fn a_host_in_c() {
-    let root = Path::new(env!("CARGO_MANIFEST_DIR")).join("..");
-    let program = Path::new(env!("CARGO_TARGET_TMPDIR")).join("host");
+fn column_program(root: &Path) -> PathBuf {
+    let program = Path::new(env!("CARGO_TARGET_TMPDIR")).join("column");
     let built = Command::new("cc")
         .args(["-std=c99", "-Wall", "-Wextra", "-pedantic", "-Werror", "-I"])
         .arg(root.join("include"))
-        .arg(root.join("examples/host.c"))
+        .arg(root.join("examples/column.c"))
         .arg(root.join("target/staticlib/libfenalukki.a"))
         .arg("-o")
         .arg(&program)
         .status();
     assert!(built.expect("a C compiler, cc").success());
-    let output = Command::new(program).output().expect("starts");
-    let expected = "\
-        full cast complete probes 39: empty 660 crossing 2 inside 362 not looked at 0\n\
-        full cast spent probes 14: empty 330 crossing 0 inside 0 not looked at 694\n\
-        first hit crossing tick 330 probes 15\n\
-        column probes 39: ticks 328 to 335 are 00111111\n";
-    assert_eq!(String::from_utf8_lossy(&output.stdout), expected);
+    program
+}
+
+/// What it prints of file K, of a file that is not there, and of the filter
+/// core, which the README shows.
+#[test]
+fn a_host_in_c() {
+    let root = Path::new(env!("CARGO_MANIFEST_DIR")).join("..");
+    let program = column_program(&root);
+    let printed = |name: &str| {
+        let file = root.join("examples/parts").join(name);
+        let output = Command::new(&program).arg(file).output();
+        String::from_utf8(output.expect("starts").stdout).expect("text")
+    };
+    let k = fs::read(root.join("examples/parts/k.part"));
+    assert_eq!(k.expect("file K"), file_k());
+    let solid = format!("{}{}{}", ".".repeat(41), "#".repeat(46), ".".repeat(41));
+    assert_eq!(printed("k.part"), format!("{solid}\nprobes 39\n"));
+    assert_eq!(printed("none.part"), "refused 1\n");
+    let core = printed("core.part");
+    let shown = core.lines().map(|line| format!("    {line}\n"));
+    let readme = fs::read_to_string(root.join("README.md")).expect("the README");
+    assert!(readme.contains(&shown.collect::<String>()));
 }

@@ -74,6 +74,13 @@ impl Coverage {
         }
     }
 
+    /// Room for `need` bytes.
+    fn room(&mut self, random: &mut SplitMix64, need: usize) -> usize {
+        let (kind, room) = requests::room(random, need);
+        self.rooms[kind] += 1;
+        room
+    }
+
     /// No class of requests is rare.
     fn assert_populated(&self) {
         let all = |classes: &[u32], least: u32| classes.iter().all(|&n| n >= least);
@@ -113,31 +120,18 @@ impl Scene {
         coverage.most_records += u32::from(most);
         for _ in 0..2 {
             let kind = random.between(0, 6) as usize;
-            let budget = budget(kind, self.cast_count);
-            let room = room(random, 1024, coverage);
+            let budget = requests::budget(kind, self.cast_count);
+            let room = coverage.room(random, 1024);
             let answer = host::full_cast(&self.file, &self.ray, budget, room);
             coverage.full_cast(answer, kind);
             let kind = random.between(0, 6) as usize;
-            let budget = self::budget(kind, self.hit_count);
+            let budget = requests::budget(kind, self.hit_count);
             let answer = host::first_hit(&self.file, &self.ray, budget);
             coverage.first_hit(answer, kind);
         }
-        let room = room(random, 128, coverage);
+        let room = coverage.room(random, 128);
         coverage.column(host::column(&self.file, &self.ray, room));
     }
-}
-
-/// The budget of a kind for a call that needs `count` probes.
-fn budget(kind: usize, count: u32) -> u32 {
-    [0, 1, count - 1, count, count + 1, 2047, u32::MAX][kind]
-}
-
-/// Room for `need` bytes, of a random kind; too little once in eight.
-fn room(random: &mut SplitMix64, need: usize, coverage: &mut Coverage) -> usize {
-    let kind = random.pick(&[0, 1, 2, 2, 2, 2, 2, 2, 2, 3, 3, 3, 3, 3, 3, 3]);
-    coverage.rooms[kind] += 1;
-    let more = need + random.between(1, 300) as usize;
-    [0, need - 1, need, more][kind]
 }
 
 /// Requests on `scenes` parts.

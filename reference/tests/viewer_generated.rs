@@ -10,7 +10,7 @@ mod floats;
 mod requests;
 
 use counted::{in_millimetres, view};
-use floats::{OTHER, SPECIAL};
+use floats::changed;
 use reference::cast::Mark;
 use reference::generate::{cancelling, lattice, part_of_form, SplitMix64, FORMS};
 use reference::part::{read, FileBuilder, Part};
@@ -86,39 +86,6 @@ impl Coverage {
 /// number.
 fn budget(kind: usize, count: u32, few: u32) -> u32 {
     [0, 1, few, 14, 15, count - 1, count, 2046, 2047, u32::MAX][kind]
-}
-
-/// Another float than the one given: next to it, half a step on, minus zero,
-/// a special one or one of any bits.
-fn other(random: &mut SplitMix64, float: f32) -> f32 {
-    match random.between(0, 6) {
-        0 => float.next_up(),
-        1 => float.next_down(),
-        2 => float + 1.0 / 128.0,
-        3 => -0.0,
-        4 => f32::from_bits(random.pick(&SPECIAL)),
-        5 => random.pick(&OTHER),
-        _ => f32::from_bits(random.next_u64() as u32),
-    }
-}
-
-/// The ray, one of its floats another once in five, and its ends then equal
-/// once in three. Whether it was changed.
-fn changed(random: &mut SplitMix64, ray: &ViewRay) -> (ViewRay, bool) {
-    let mut changed = *ray;
-    let change = random.one_in(5);
-    if change {
-        let end = match random.one_in(2) {
-            true => &mut changed.a,
-            false => &mut changed.b,
-        };
-        let float = &mut end[random.between(0, 2) as usize];
-        *float = other(random, *float);
-        if random.one_in(3) {
-            changed.b = changed.a;
-        }
-    }
-    (changed, change)
 }
 
 /// Totals that are handed on from request to request.

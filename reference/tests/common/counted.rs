@@ -4,13 +4,16 @@
 
 #[path = "entries.rs"]
 mod entries;
+#[path = "expected.rs"]
+mod expected;
 #[path = "guards.rs"]
 mod guards;
 #[path = "test_entries.rs"]
 pub mod test_entries;
 
+pub use expected::in_millimetres;
+use expected::{answered, number_and_place};
 use guards::in_guards;
-use reference::cast;
 use reference::field::Ray;
 use reference::totals::Totals;
 use reference::view::{viewer_first_hit, ViewRay, ViewerHit};
@@ -32,31 +35,6 @@ fn lent<T>(totals: Totals, call: impl FnOnce(&mut [u32; 3]) -> T) -> (T, Totals)
         refusals,
     };
     (answer, after)
-}
-
-/// The reference's number and probes of a full cast if `which` is 0, of a first
-/// hit if it is 1, else of a column.
-fn expected(
-    file: &[u8],
-    which: u32,
-    ray: &Ray,
-    budget: u32,
-    buffer: &mut [u8],
-) -> (u64, Option<u32>) {
-    match which {
-        0 => {
-            let answer = cast::full_cast(file, ray, budget, buffer);
-            (u64::from(answer.number()), answer.probes())
-        }
-        1 => {
-            let answer = cast::first_hit(file, ray, budget);
-            (answer.number(), answer.probes())
-        }
-        _ => {
-            let answer = cast::column(file, ray, buffer);
-            (u64::from(answer.number()), answer.probes())
-        }
-    }
 }
 
 /// What the archive alone answers to a full cast, first hit or column: the
@@ -95,7 +73,7 @@ pub fn call(
 ) -> Option<u32> {
     let copy = file.to_vec();
     let found = called(&copy, which, ray, budget, room, *totals);
-    let ((number, probes), bytes) = in_guards(room, |b| expected(file, which, ray, budget, b));
+    let ((number, probes), bytes) = in_guards(room, |b| answered(file, which, ray, budget, b));
     *totals = totals.after(probes);
     let request = || format!("{which} {ray:?} {budget} {room} {file:?}");
     assert_eq!(found, (number, bytes, *totals), "{}", request());
@@ -122,21 +100,6 @@ pub fn view(file: &[u8], ray: &ViewRay, budget: u32, totals: &mut Totals) -> Vie
     answer
 }
 
-/// The number and the place that the test entries give for the answer.
-fn number_and_place(answer: ViewerHit) -> (u64, f32) {
-    let (k, place, probes) = match answer {
-        ViewerHit::Refused(number) => return (u64::from(number), 0.0),
-        ViewerHit::Hit {
-            entry,
-            mark,
-            probes,
-        } => (u64::from(mark.byte()), entry, probes),
-        ViewerHit::Clear { probes } => (3, 0.0, probes),
-        ViewerHit::Spent { reached, probes } => (4, reached, probes),
-    };
-    (k * 4_294_967_296 + u64::from(probes), place)
-}
-
 /// The tick that starts exactly at the place.
 fn tick(place: f32) -> u64 {
     let ticks = f64::from(place) * 1024.0;
@@ -150,14 +113,5 @@ fn in_steps(ray: &ViewRay) -> Ray {
     Ray {
         a: steps(ray.a),
         b: steps(ray.b),
-    }
-}
-
-/// A ray in millimetres.
-pub fn in_millimetres(ray: &Ray) -> ViewRay {
-    let millimetres = |end: [i32; 3]| end.map(|c| c as f32 / 64.0);
-    ViewRay {
-        a: millimetres(ray.a),
-        b: millimetres(ray.b),
     }
 }

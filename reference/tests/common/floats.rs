@@ -1,4 +1,7 @@
-//! Floats that are no step.
+//! Floats that are no step, and rays with one of them.
+
+use reference::generate::SplitMix64;
+use reference::view::ViewRay;
 
 /// Bits of floats that are no step: subnormal, the smallest normal and the
 /// largest, infinite, or no number.
@@ -71,3 +74,38 @@ pub const OTHER: [f32; 22] = [
     4095.0 / 128.0,
     1e-30,
 ];
+
+/// Another float than the one given: next to it, half a step on, minus zero,
+/// a special one or one of any bits.
+#[allow(dead_code)]
+fn other(random: &mut SplitMix64, float: f32) -> f32 {
+    match random.between(0, 6) {
+        0 => float.next_up(),
+        1 => float.next_down(),
+        2 => float + 1.0 / 128.0,
+        3 => -0.0,
+        4 => f32::from_bits(random.pick(&SPECIAL)),
+        5 => random.pick(&OTHER),
+        _ => f32::from_bits(random.next_u64() as u32),
+    }
+}
+
+/// The ray, one of its floats another once in five, and its ends then equal
+/// once in three. Whether it was changed.
+#[allow(dead_code)]
+pub fn changed(random: &mut SplitMix64, ray: &ViewRay) -> (ViewRay, bool) {
+    let mut changed = *ray;
+    let change = random.one_in(5);
+    if change {
+        let end = match random.one_in(2) {
+            true => &mut changed.a,
+            false => &mut changed.b,
+        };
+        let float = &mut end[random.between(0, 2) as usize];
+        *float = other(random, *float);
+        if random.one_in(3) {
+            changed.b = changed.a;
+        }
+    }
+    (changed, change)
+}

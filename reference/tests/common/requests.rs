@@ -6,6 +6,7 @@ use reference::generate::{Shape, SplitMix64, STYLES};
 use reference::part::{FileBuilder, Part};
 
 /// The file of a part; a damaged one, or other bytes, once in five.
+#[allow(dead_code)]
 pub fn file(random: &mut SplitMix64, part: &Part) -> Vec<u8> {
     let leading = vec![1; random.pick(&[0, 0, 0, 1, 12, 100])];
     let builder = FileBuilder::from(part).leading(&leading);
@@ -35,6 +36,20 @@ pub fn ray(random: &mut SplitMix64, part: &Part) -> Ray {
         _ => {}
     }
     ray
+}
+
+/// The budget of a kind, 0 to 6, for a call that needs `count` probes.
+#[allow(dead_code)]
+pub fn budget(kind: usize, count: u32) -> u32 {
+    [0, 1, count - 1, count, count + 1, 2047, u32::MAX][kind]
+}
+
+/// Room for `need` bytes, too little once in eight: its kind, 0 to 3, and it.
+#[allow(dead_code)]
+pub fn room(random: &mut SplitMix64, need: usize) -> (usize, usize) {
+    let kind = random.pick(&[0, 1, 2, 2, 2, 2, 2, 2, 2, 3, 3, 3, 3, 3, 3, 3]);
+    let more = need + random.between(1, 300) as usize;
+    (kind, [0, need - 1, need, more][kind])
 }
 
 /// How many parts, and their shape.

@@ -1,0 +1,140 @@
+//! The parts and the rays whose columns are made.
+
+use reference::field::Ray;
+use reference::generate::{lattice, strut};
+use reference::part::{read, FileBuilder, Kind, Node, Part, REACH};
+use std::fs;
+use std::hint::black_box;
+use std::path::Path;
+
+/// A column of a file's part on a ray: 65,536 + probes, or samples.
+pub type ColumnCall = fn(&[u8], &Ray, &mut [u8]) -> u32;
+
+/// A part and the rays of its columns.
+pub struct Load {
+    pub name: String,
+    pub points: usize,
+    file: Vec<u8>,
+    pub rays: Vec<Ray>,
+}
+
+impl Load {
+    fn new(name: String, part: &Part, rays: Vec<Ray>) -> Load {
+        Load {
+            name,
+            points: points(part).count(),
+            file: FileBuilder::from(part).build(),
+            rays,
+        }
+    }
+
+    /// The column on a ray: the probes, or samples, and the bytes.
+    pub fn column(&self, ray: &Ray, call: ColumnCall) -> (u32, [u8; 128]) {
+        let mut column = [0; 128];
+        let number = call(black_box(&self.file), ray, &mut column);
+        let probes = number.checked_sub(65_536).expect("an accepted ray");
+        (probes, black_box(column))
+    }
+
+    /// All columns once; answers the probes, or samples.
+    pub fn columns(&self, call: ColumnCall) -> u32 {
+        self.rays.iter().map(|ray| self.column(ray, call).0).sum()
+    }
+
+    /// How many columns have a bit set.
+    pub fn solid(&self, call: ColumnCall) -> usize {
+        let has_bit = |ray: &&Ray| self.column(ray, call).1 != [0; 128];
+        self.rays.iter().filter(has_bit).count()
+    }
+}
+
+fn points(part: &Part) -> impl Iterator<Item = &Node> {
+    part.nodes.iter().filter(|node| node.kind == Kind::Point)
+}
+
+/// The least and the greatest coordinate of the points' balls along one axis,
+/// as far as a ray reaches.
+fn extent(part: &Part, along: fn(&Node) -> i16) -> (i32, i32) {
+    let end = |node, sign: i32| i32::from(along(node)) + sign * i32::from(node.r);
+    let low = points(part).map(|node| end(node, -1)).min();
+    let high = points(part).map(|node| end(node, 1)).max();
+    let [low, high] = [low, high].map(|end| end.expect("a point").clamp(-REACH, REACH));
+    (low, high)
+}
+
+/// Rays along x, ten by ten, through the box of the points' balls.
+fn raster(part: &Part) -> Vec<Ray> {
+    let (from, to) = extent(part, |node| node.x);
+    let (y, z) = (extent(part, |node| node.y), extent(part, |node| node.z));
+    let place = |(low, high): (i32, i32), i: i32| low + (high - low) * (2 * i + 1) / 20;
+    let ray = |n: i32| {
+        let (y, z) = (place(y, n % 10), place(z, n / 10));
+        Ray {
+            a: [from, y, z],
+            b: [to, y, z],
+        }
+    };
+    (0..100).map(ray).collect()
+}
+
+/// The part files of the examples.
+pub fn parts() -> Vec<Load> {
+    let folder = Path::new(env!("CARGO_MANIFEST_DIR")).join("../examples/parts");
+    let load = |name: &str| {
+        let path = folder.join(name);
+        let file = fs::read(&path).unwrap_or_else(|error| panic!("{}: {error}", path.display()));
+        let part = read(&file).unwrap_or_else(|number| panic!("{name}: refused {number}"));
+        Load::new(name.to_string(), &part, raster(&part))
+    };
+    ["pad.part", "core.part", "k.part"].map(load).into()
+}
+
+/// Lattices of 1, 2, 4 and so on up to 256 points.
+pub fn lattices() -> Vec<Load> {
+    let load = |n: i16| {
+        let [x, y, z] = [(n + 2) / 3, (n + 1) / 3, n / 3].map(|power| 1 << power);
+        let part = lattice([x, y, z]);
+        Load::new(format!("lattice {x} x {y} x {z}"), &part, raster(&part))
+    };
+    (0..=8).map(load).collect()
+}
+
+/// The greatest number of points, of which half cancel the other half: no tick
+/// is decided where they reach. A ray's first ticks lie there, the others do
+/// not.
+pub fn cancelled() -> Vec<Load> {
+    let point = |n: i16| Node {
+        kind: Kind::Point,
+        r: 1024,
+        x: -1,
+        y: 0,
+        z: 0,
+        w: if n % 2 == 0 { 4096 } else { -4096 },
+    };
+    let file = (0..256).fold(FileBuilder::new(1), |file, n| match n {
+        0 => file.node(&point(n)),
+        _ => file.node(&point(n)).sum(),
+    });
+    let part = read(&file.build()).expect("a part");
+    let load = |ticks: i32| {
+        let ray = Ray {
+            a: [1023 - ticks, 0, 0],
+            b: [2047 - ticks, 0, 0],
+        };
+        Load::new(format!("crossing ticks: {ticks}"), &part, vec![ray])
+    };
+    [0, 1, 8, 16, 32, 64, 128, 256, 512, 1024].map(load).into()
+}
+
+/// A strut that stands between two samples.
+pub fn struts() -> Vec<Load> {
+    let (part, rays) = strut(21);
+    vec![Load::new("strut".to_string(), &part, rays)]
+}
+
+/// The load of this name.
+pub fn named(name: &str) -> Load {
+    let loads = [parts(), lattices(), cancelled()];
+    let load = loads.into_iter().flatten().find(|load| load.name == name);
+    load.expect("the name of a load")
+}

@@ -1,0 +1,106 @@
+//! The repository's own documents: what they quote and name is there.
+
+use std::fs;
+use std::path::{Path, PathBuf};
+
+const FOLDERS: [&str; 5] = ["docs", "examples", "include", "reference", "robust"];
+
+fn root() -> PathBuf {
+    Path::new(env!("CARGO_MANIFEST_DIR")).join("..")
+}
+
+fn read(name: &str) -> String {
+    fs::read_to_string(root().join(name)).unwrap_or_else(|e| panic!("{name}: {e}"))
+}
+
+/// The block of a document that is marked as this language's.
+fn block<'a>(text: &'a str, language: &str) -> &'a str {
+    let start = format!("```{language}\n");
+    let after = text.split_once(&start).expect("a block").1;
+    after.split_once("```").expect("its end").0
+}
+
+/// What stands in backticks, and the pictures.
+fn quoted(text: &str) -> impl Iterator<Item = &str> {
+    let pictures = text.split("src=\"").skip(1);
+    let ticked = text.split('`').skip(1).step_by(2);
+    ticked.chain(pictures.filter_map(|rest| rest.split('"').next()))
+}
+
+fn is_path(word: &str) -> bool {
+    let first = word.split('/').next().unwrap_or_default();
+    let known = first == "crates" || FOLDERS.contains(&first);
+    known && word.contains('/') && !word.contains(' ') && !word.contains("CRATE")
+}
+
+/// The names and the text of all files below a folder.
+fn all_text(folder: &Path) -> String {
+    let entries = fs::read_dir(folder).expect("a folder");
+    let text = |path: PathBuf| {
+        let inner = match path.is_dir() {
+            true => all_text(&path),
+            false => fs::read_to_string(&path).unwrap_or_default(),
+        };
+        format!(" {} {inner}", path.display())
+    };
+    entries.map(|e| text(e.expect("an entry").path())).collect()
+}
+
+/// Whether a word stands in a text by itself.
+fn has_word(text: &str, word: &str) -> bool {
+    let part = |c: char| c.is_alphanumeric() || c == '-' || c == '_';
+    text.match_indices(word).any(|(at, _)| {
+        let before = text[..at].chars().next_back();
+        let after = text[at + word.len()..].chars().next();
+        !before.is_some_and(part) && !after.is_some_and(part)
+    })
+}
+
+#[test]
+fn the_readme_shows_the_host_and_the_contract_as_they_are() {
+    let readme = read("README.md");
+    assert_eq!(block(&readme, "c"), read("examples/column.c"));
+    assert!(read("crates/cast/src/lib.rt").contains(block(&readme, "rust")));
+}
+
+#[test]
+fn every_crate_and_folder_is_on_the_map() {
+    let readme = read("README.md");
+    let crates = read("crates.txt");
+    let names = crates.lines().filter_map(|line| line.split(':').next());
+    let rows = names.map(|name| format!("crates/{name}"));
+    for row in rows.chain(FOLDERS.map(String::from)) {
+        assert!(readme.contains(&format!("| `{row}` |")), "{row}");
+    }
+}
+
+fn assert_paths(document: &str) {
+    for word in quoted(&read(document)).filter(|word| is_path(word)) {
+        assert!(root().join(word).exists(), "{document}: {word}");
+    }
+}
+
+#[test]
+fn every_path_in_a_document_is_there() {
+    let documents = [
+        "README.md",
+        "docs/BENCHMARKS.md",
+        "docs/DECISIONS.md",
+        "docs/DEMANDS.md",
+        "docs/EVIDENCE.md",
+        "docs/PROOFS.md",
+        "docs/ROBUSTNESS.md",
+    ];
+    documents.into_iter().for_each(assert_paths);
+}
+
+/// `crate::name`, or a name alone, of a contract, a definition or a theorem.
+#[test]
+fn every_name_in_a_document_is_in_the_crates() {
+    let text = all_text(&root().join("crates"));
+    let documents = ["docs/DEMANDS.md", "docs/PROOFS.md"].map(read).concat();
+    let words = quoted(&documents).flat_map(|quote| quote.split([' ', ':']));
+    for word in words.filter(|word| !word.is_empty() && !word.contains('/')) {
+        assert!(has_word(&text, word), "{word}");
+    }
+}
