@@ -1,13 +1,13 @@
--- Fractions: their order, and what `plus`, `greater` and `lesser` do to it. Laws that pass over a fraction ask that it be `Proper`.
+-- Fractions: their order, and what `plus`, `less`, `greater` and `lesser` do to it. Laws that pass over a fraction ask that it be `Proper`.
 -- `≼-trans p h k : x ≼ z`, from `h : x ≼ y`, `k : y ≼ z` and `p : Proper y`.
-use mathlib.Core.Path.{_≡_, ap₂}
+use mathlib.Core.Path.{_≡_, refl, ap₂}
 use mathlib.Core.Logic.{_⊎_}
 use mathlib.Core.Bool.{true, false}
 use Prim.Native.Nat.{ℕ}
 use native.Mathlib.Nat.{mul-pos, mul-comm, mul-assoc, mul-one}
-use lib.IntN.{ℤ, pos, _+ℤ_, _*ℤ_}
+use lib.IntN.{ℤ, pos, _+ℤ_, _-ℤ_, _*ℤ_}
 use lib.Signed.{_≤ℤ_}
-use Rattle.exact.specs.Fraction.{Fraction, _over_, Proper, _≼_, atMost, plus, greater, lesser}
+use Rattle.exact.specs.Fraction.{Fraction, _over_, Proper, _≼_, atMost, plus, less, greater, lesser}
 use Rattle.exact.proofs.Ring.{_⊕_, _⊖_, _⊗_, #, _≔_, ring}
 use Rattle.exact.proofs.Order.{nn-add, nn-mul, nn-pos, <ℤ-le, ≤ℤ-of-eq, mul-cancel-le, pos-mono-lt}
 use Rattle.exact.proofs.Certificates.{_≦_by_, le, nn}
@@ -79,6 +79,24 @@ plus-up x y h k = (
 pub plus-nn : (x y : Fraction) → pos 0 ≤ℤ x .num → pos 0 ≤ℤ y .num → pos 0 ≤ℤ plus x y .num
 unfolding plus
 plus-nn x y h k = nn-add (nn-mul h (nn-pos (y .den))) (nn-mul k (nn-pos (x .den)))
+
+-- ---- the difference from an integer and the order
+
+pub less-proper : (n : ℤ) (x : Fraction) → Proper x → Proper (less n x)
+unfolding less
+less-proper n x p = p
+
+pub less-anti : {x y : Fraction} (n : ℤ) → x ≼ y → less n y ≼ less n x
+unfolding less
+less-anti {x} {y} n h = record {
+  cross = le 5 (λ n a b c d. (n ⊗ d ⊖ c) ⊗ b ≦ (n ⊗ b ⊖ a) ⊗ d by c ⊗ b ⊖ a ⊗ d) tt
+      n (x .num) (pos (x .den)) (y .num) (pos (y .den)) (search (nn, h .cross));
+}
+
+-- of the same denominator
+pub less-over : (n z : ℤ) (d : ℕ) → less n (z over d) ≡ (n *ℤ pos d -ℤ z) over d
+unfolding less
+less-over n z d = refl
 
 -- ---- the greater and the lesser: one of the two, and which
 

@@ -34,7 +34,8 @@ cond-is true x y = inl (refl, refl)
 cond-is false x y = inr (refl, refl)
 
 -- with what the test says, either way
-pub cond-by {ℓ} : {A : Type ℓ} {P Q : Type 0} (t : Bool) (x y : A) → (t ≡ true → P) → (t ≡ false → Q) → (P × (cond t x y ≡ x)) ⊎ (Q × (cond t x y ≡ y))
+pub cond-by {ℓ} : {A : Type ℓ} {P Q : Type 0} (t : Bool) (x y : A) → (t ≡ true → P) → (t ≡ false → Q)
+    → (P × (cond t x y ≡ x)) ⊎ (Q × (cond t x y ≡ y))
 cond-by true x y f g = inl (f refl, refl)
 cond-by false x y f g = inr (g refl, refl)
 
