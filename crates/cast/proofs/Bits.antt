@@ -60,7 +60,8 @@ packed-bit bits h n t b =
     let k = t / 8 in
     let r = t % 8 in
     let low : r < 8 = omega arith in
-    let at : (i : ℕ) → i < 8 → getD (take 8 (drop (8 * k) bits)) i 0 ≡ getD bits (8 * k + i) 0 = λ i j. getD-take 8 (drop (8 * k) bits) i 0 j ∙ getD-drop (8 * k) bits i 0 in
+    let at : (i : ℕ) → i < 8 → getD (take 8 (drop (8 * k) bits)) i 0 ≡ getD bits (8 * k + i) 0
+    = λ i j. getD-take 8 (drop (8 * k) bits) i 0 j ∙ getD-drop (8 * k) bits i 0 in
     let place : 8 * k + r ≡ t = div-add-mod t 8 in
     rw (packed-byte bits n k (omega arith))
     (bit-of (take 8 (drop (8 * k) bits)) r (λ i j. rw (at i (omega (arith, low))) (h (8 * k + i))) ∙ at r low ∙ ap (λ (x : ℕ). getD bits x 0) place)

@@ -1,111 +1,116 @@
 -- What each way out of the calls shows. An accepted file and ray can be searched (`searchable`), and the states that the search finds in the prepared
--- numbers are those of the file's tree on the ray (`states-are`).
+-- numbers are those of the file's solid on the ray (`states-are`), for any number of ticks up to 4,096.
 use mathlib.Core.Path.{_≡_, refl, ap, fun-ext, _∙_}
 use mathlib.Core.List.{List, [], _∷_, _++_, map}
-use Prim.Native.Nat.{ℕ, _+_, _≤_}
+use Prim.Native.Nat.{ℕ, _^_, _≤_}
 use native.Mathlib.Omega.{arith}
 use borrow.Author.Tests.{leb-true}
 use lib.ListN.{length, drop}
 use lib.IntN.{ℤ}
 use lib.Dec.{leb}
-use Rattle.part.specs.Questions.{firstNo}
-use Rattle.part.specs.File.{iso, nodes}
+use Rattle.part.specs.declared.Summary.{Summary}
 use Rattle.part.specs.declared.Checked.the-variants.{Accepted, Refused}
-use Rattle.part.proofs.Questions.{yes-append, all-yes}
+use Rattle.record.specs.Questions.{firstNo}
+use Rattle.record.proofs.Questions.{yes-append, all-yes}
 use Rattle.part.proofs.File.{answer-accepted, answer-refused}
 use Rattle.field.specs.declared.Ray.{Ray}
-use Rattle.field.specs.Kernel.{quartic}
-use Rattle.field.specs.Loading.{rayQuestions, checkRay, loadedRay}
-use Rattle.field.proofs.Loading.{Serves, accepted-ray, serves}
-use Rattle.cast.specs.declared.Search.{Search}
-use Rattle.cast.specs.declared.CastAnswer.{CastAnswer}
-use Rattle.cast.specs.declared.CastAnswer.the-variants as cast
-use Rattle.cast.specs.declared.HitAnswer.{HitAnswer}
-use Rattle.cast.specs.declared.HitAnswer.the-variants as found
+use Rattle.field.specs.Ray.{ticks}
+use Rattle.field.specs.Solid.{solidOf}
+use Rattle.loading.specs.Prepared.{preparedRoom}
+use Rattle.loading.specs.Loading.{rayQuestions, checkRay, loadedRay}
+use Rattle.bounds.proofs.Serving.{Serves, serves}
+use Rattle.halving.specs.declared.Search.{Search}
+use Rattle.halving.specs.declared.CastAnswer.{CastAnswer}
+use Rattle.halving.specs.declared.CastAnswer.the-variants as cast
+use Rattle.halving.specs.declared.HitAnswer.{HitAnswer}
+use Rattle.halving.specs.declared.HitAnswer.the-variants as found
+use Rattle.halving.specs.Search.{stateIn, Searchable, Halvable}
+use Rattle.halving.specs.Halving.{probeCount, spanMarks, walk, handed}
+use Rattle.halving.specs.FirstHit.{hit}
 use Rattle.cast.specs.declared.ColumnAnswer.{ColumnAnswer}
 use Rattle.cast.specs.declared.ColumnAnswer.the-variants as column
-use Rattle.cast.specs.Ticks.{ticks, spanState, rayState}
-use Rattle.cast.specs.Search.{stateIn, Searchable, Halvable}
+use Rattle.cast.specs.Ticks.{exponent, rayState}
 use Rattle.cast.specs.Questions.{endsDiffer, hitQuestions, bufferQuestions, checkHit, checkBuffer}
-use Rattle.cast.specs.Halving.{probeCount, spanMarks, walk, handed}
-use Rattle.cast.specs.FirstHit.{hit}
-use Rattle.cast.specs.Column.{markBit, packed}
-use Rattle.cast.specs.Calls.{rayMarks, rayWalk, castAfter, fullCast, marksAfter, marksLeft, hitAfter, firstHit, columnAfter, columnAnswer, bitsAfter, bitsLeft}
+use Rattle.cast.specs.Column.{columnBytes, markBit, packed}
+use Rattle.cast.specs.Calls.{rayMarks, rayWalk, castAfter, fullCast, marksAfter, marksLeft}
+use Rattle.cast.specs.Calls.{hitAfter, firstHit, columnAfter, columnAnswer, bitsAfter, bitsLeft}
 use Rattle.cast.specs.Demands.{CastDemands, HitDemands, ColumnDemands}
 use Rattle.cast.proofs.Questions.{asked-before}
 use Rattle.cast.proofs.Demands.{cast-demands, hit-demands, column-demands}
 
-abbrev search : ℕ → ℕ → ℕ → Search
-search n i budget = record { nodes = n; iso = i; ticks = 1024; budget = budget }
+-- what the search is handed
+abbrev searched : Summary → ℕ → ℕ → Search
+searched part T budget = record { part = part; ticks = T; budget = budget }
 
-pub whole : Halvable 1024 0 1024 10
-whole = record { size = refl; end = omega arith }
+pub whole : (k : ℕ) → Halvable (2 ^ k) 0 (2 ^ k) k
+whole k = record { size = refl; end = omega arith }
 
 module _ (file : List ℕ) (ray : Ray) where
-  ray-accepted : {n i : ℕ} → checkHit file ray ≡ Accepted n i → checkRay file ray ≡ Accepted n i
+  ray-accepted : {part : Summary} → checkHit file ray ≡ Accepted part → checkRay file ray ≡ Accepted part
   unfolding checkHit hitQuestions checkRay
   ray-accepted e = asked-before (rayQuestions file ray) ((13, endsDiffer ray) ∷ []) file e
 
-  pub hit-accepted : (need room : ℕ) {n i : ℕ} → checkBuffer file ray need room ≡ Accepted n i → checkHit file ray ≡ Accepted n i
+  pub hit-accepted : (need room : ℕ) {part : Summary} → checkBuffer file ray need room ≡ Accepted part → checkHit file ray ≡ Accepted part
   unfolding checkBuffer bufferQuestions checkHit
   hit-accepted need room e = asked-before (hitQuestions file ray) ((14, leb need room) ∷ []) file e
 
-  pub room-enough : (need room : ℕ) {n i : ℕ} → checkBuffer file ray need room ≡ Accepted n i → need ≤ room
+  pub room-enough : (need room : ℕ) {part : Summary} → checkBuffer file ray need room ≡ Accepted part → need ≤ room
   unfolding checkBuffer bufferQuestions
   room-enough need room e =
       let v = answer-accepted (firstNo (bufferQuestions file ray need room)) file e in
       leb-true need room (all-yes ((14, leb need room) ∷ []) (yes-append (hitQuestions file ray) ((14, leb need room) ∷ []) v .1) 0)
 
   -- the array that `load_ray` leaves
-  module _ (lent l : List ℤ) (long : length lent ≡ 2556) (loaded : l ≡ loadedRay file ray lent) {n i : ℕ} (e : checkHit file ray ≡ Accepted n i) where
-    served : Serves file ray l n
+  module _ (lent l : List ℤ) (long : length lent ≡ preparedRoom) (loaded : l ≡ loadedRay file ray lent)
+      {part : Summary} (e : checkHit file ray ≡ Accepted part) where
+    served : Serves file ray l part
     served = rw loaded (serves file ray lent long (ray-accepted e))
 
-    pub prepared-long : 2556 ≡ length l
+    pub prepared-long : preparedRoom ≡ length l
     prepared-long = served .long
 
-    pub searchable : (budget : ℕ) → Searchable l (search n i budget)
-    searchable budget =
-        let a = accepted-ray file ray (ray-accepted e) in
-        record { probe = served .probe; iso-high = omega (arith, a .iso-is, a .iso-high); ticks-low = omega arith; ticks-high = omega arith }
+    pub searchable : (T budget : ℕ) → 1 ≤ T → T ≤ 4096 → Searchable l (searched part T budget)
+    searchable T budget low high = record { probe = served .probe; ticks-low = low; ticks-high = high }
 
-    pub states-are : (budget : ℕ) → stateIn l (search n i budget) ≡ rayState file ray
-    unfolding stateIn spanState
-    states-are budget =
-        let a = accepted-ray file ray (ray-accepted e) in
-        fun-ext (λ t. fun-ext (λ len. rw (served .bounds quartic (ticks t len 1024), a .iso-is)))
+    pub states-are : (T budget : ℕ) → stateIn l (searched part T budget) ≡ rayState (solidOf file) ray T
+    unfolding stateIn rayState
+    states-are T budget = fun-ext (λ t. fun-ext (λ len. served .states (ticks t len T)))
 
 -- ---- full cast
 
 module _ (file : List ℕ) (ray : Ray) (budget : ℕ) (lent : List ℕ) where
   -- what the call promises of an answer and of the buffer
   abbrev pub CastPromised : CastAnswer → List ℕ → Type 0
-  CastPromised w l = (w ≡ fullCast file ray budget (length lent)) × ((l ≡ marksLeft file ray budget lent) × CastDemands file ray budget w l)
+  CastPromised w l =
+      (w ≡ fullCast file ray budget (length lent))
+      × ((l ≡ marksLeft file ray budget lent) × CastDemands (solidOf file) ray exponent budget w l)
 
   cast-promised : (w : CastAnswer) (l : List ℕ) → w ≡ fullCast file ray budget (length lent) → l ≡ marksLeft file ray budget lent → CastPromised w l
   cast-promised w l e f = (e, (f, rw (e, f) (cast-demands file ray budget lent)))
 
-  pub cast-refused : {n : ℕ} → checkBuffer file ray 1024 (length lent) ≡ Refused n → CastPromised (cast.Refused n) lent
+  pub cast-refused : {n : ℕ} → checkBuffer file ray (2 ^ exponent) (length lent) ≡ Refused n → CastPromised (cast.Refused n) lent
   unfolding checkBuffer fullCast castAfter marksLeft marksAfter
   cast-refused e =
-      let v = answer-refused (firstNo (bufferQuestions file ray 1024 (length lent))) file e in
+      let v = answer-refused (firstNo (bufferQuestions file ray (2 ^ exponent) (length lent))) file e in
       cast-promised _ lent (rw v) (rw v)
 
-  pub cast-made : {st : ℕ → ℕ → ℕ} (w : CastAnswer) (l : List ℕ) {n i : ℕ} → st ≡ rayState file ray → checkBuffer file ray 1024 (length lent) ≡ Accepted n i
-      → w ≡ walk st budget 10 0 0 → l ≡ handed 1024 w (spanMarks st 10 0) ++ drop 1024 lent → CastPromised w l
+  pub cast-made : {st : ℕ → ℕ → ℕ} (w : CastAnswer) (l : List ℕ) {part : Summary} → st ≡ rayState (solidOf file) ray (2 ^ exponent)
+      → checkBuffer file ray (2 ^ exponent) (length lent) ≡ Accepted part → w ≡ walk st budget exponent 0 0
+      → l ≡ handed (2 ^ exponent) w (spanMarks st exponent 0) ++ drop (2 ^ exponent) lent → CastPromised w l
   unfolding checkBuffer fullCast castAfter marksLeft marksAfter
   cast-made w l is e answer bytes =
-      let v = answer-accepted (firstNo (bufferQuestions file ray 1024 (length lent))) file e in
-      let a : w ≡ rayWalk file ray budget = answer ∙ ap (λ (st : ℕ → ℕ → ℕ). walk st budget 10 0 0) is in
-      cast-promised w l (rw v a) (rw v (bytes ∙ ap (λ (st : ℕ → ℕ → ℕ). handed 1024 w (spanMarks st 10 0) ++ drop 1024 lent) is
-      ∙ ap (λ (w : CastAnswer). handed 1024 w (rayMarks file ray) ++ drop 1024 lent) a))
+      let v = answer-accepted (firstNo (bufferQuestions file ray (2 ^ exponent) (length lent))) file e in
+      let a : w ≡ rayWalk (solidOf file) ray exponent budget = answer ∙ ap (λ (st : ℕ → ℕ → ℕ). walk st budget exponent 0 0) is in
+      cast-promised w l (rw v a) (rw v (bytes
+      ∙ ap (λ (st : ℕ → ℕ → ℕ). handed (2 ^ exponent) w (spanMarks st exponent 0) ++ drop (2 ^ exponent) lent) is
+      ∙ ap (λ (w : CastAnswer). handed (2 ^ exponent) w (rayMarks (solidOf file) ray exponent) ++ drop (2 ^ exponent) lent) a))
 
 -- ---- first hit
 
 module _ (file : List ℕ) (ray : Ray) (budget : ℕ) where
   -- what the call promises of an answer
   abbrev pub HitPromised : HitAnswer → Type 0
-  HitPromised f = (f ≡ firstHit file ray budget) × HitDemands file ray budget f
+  HitPromised f = (f ≡ firstHit file ray budget) × HitDemands (solidOf file) ray exponent budget f
 
   hit-promised : (f : HitAnswer) → f ≡ firstHit file ray budget → HitPromised f
   hit-promised f e = (e, rw e (hit-demands file ray budget))
@@ -114,32 +119,35 @@ module _ (file : List ℕ) (ray : Ray) (budget : ℕ) where
   unfolding checkHit firstHit hitAfter
   hit-refused e = let v = answer-refused (firstNo (hitQuestions file ray)) file e in hit-promised _ (rw v)
 
-  pub hit-made : {st : ℕ → ℕ → ℕ} (f : HitAnswer) {n i : ℕ} → st ≡ rayState file ray → checkHit file ray ≡ Accepted n i → f ≡ hit st budget 10 0 0 → HitPromised f
+  pub hit-made : {st : ℕ → ℕ → ℕ} (f : HitAnswer) {part : Summary} → st ≡ rayState (solidOf file) ray (2 ^ exponent)
+      → checkHit file ray ≡ Accepted part → f ≡ hit st budget exponent 0 0 → HitPromised f
   unfolding checkHit firstHit hitAfter
   hit-made f is e answer =
       let v = answer-accepted (firstNo (hitQuestions file ray)) file e in
-      hit-promised f (rw v (answer ∙ ap (λ (st : ℕ → ℕ → ℕ). hit st budget 10 0 0) is))
+      hit-promised f (rw v (answer ∙ ap (λ (st : ℕ → ℕ → ℕ). hit st budget exponent 0 0) is))
 
 -- ---- column
 
 module _ (file : List ℕ) (ray : Ray) (lent : List ℕ) where
   -- what the call promises of an answer and of the buffer
   abbrev pub ColumnPromised : ColumnAnswer → List ℕ → Type 0
-  ColumnPromised w l = (w ≡ columnAnswer file ray (length lent)) × ((l ≡ bitsLeft file ray lent) × ColumnDemands file ray w l)
+  ColumnPromised w l =
+      (w ≡ columnAnswer file ray (length lent)) × ((l ≡ bitsLeft file ray lent) × ColumnDemands (solidOf file) ray exponent w l)
 
   column-promised : (w : ColumnAnswer) (l : List ℕ) → w ≡ columnAnswer file ray (length lent) → l ≡ bitsLeft file ray lent → ColumnPromised w l
   column-promised w l e f = (e, (f, rw (e, f) (column-demands file ray lent)))
 
-  pub column-refused : {n : ℕ} → checkBuffer file ray 128 (length lent) ≡ Refused n → ColumnPromised (column.Refused n) lent
+  pub column-refused : {n : ℕ} → checkBuffer file ray columnBytes (length lent) ≡ Refused n → ColumnPromised (column.Refused n) lent
   unfolding checkBuffer columnAnswer columnAfter bitsLeft bitsAfter
   column-refused e =
-      let v = answer-refused (firstNo (bufferQuestions file ray 128 (length lent))) file e in
+      let v = answer-refused (firstNo (bufferQuestions file ray columnBytes (length lent))) file e in
       column-promised _ lent (rw v) (rw v)
 
-  pub column-made : {st : ℕ → ℕ → ℕ} (p : ℕ) (l : List ℕ) {n i : ℕ} → st ≡ rayState file ray → checkBuffer file ray 128 (length lent) ≡ Accepted n i
-      → p ≡ probeCount st 10 0 → l ≡ packed (map markBit (spanMarks st 10 0)) 128 ++ drop 128 lent → ColumnPromised (column.Complete p) l
+  pub column-made : {st : ℕ → ℕ → ℕ} (p : ℕ) (l : List ℕ) {part : Summary} → st ≡ rayState (solidOf file) ray (2 ^ exponent)
+      → checkBuffer file ray columnBytes (length lent) ≡ Accepted part → p ≡ probeCount st exponent 0
+      → l ≡ packed (map markBit (spanMarks st exponent 0)) columnBytes ++ drop columnBytes lent → ColumnPromised (column.Complete p) l
   unfolding checkBuffer columnAnswer columnAfter bitsLeft bitsAfter
   column-made p l is e probes bytes =
-      let v = answer-accepted (firstNo (bufferQuestions file ray 128 (length lent))) file e in
-      column-promised _ l (rw v (ap column.Complete (probes ∙ ap (λ (st : ℕ → ℕ → ℕ). probeCount st 10 0) is)))
-      (rw v (bytes ∙ ap (λ (st : ℕ → ℕ → ℕ). packed (map markBit (spanMarks st 10 0)) 128 ++ drop 128 lent) is))
+      let v = answer-accepted (firstNo (bufferQuestions file ray columnBytes (length lent))) file e in
+      column-promised _ l (rw v (ap column.Complete (probes ∙ ap (λ (st : ℕ → ℕ → ℕ). probeCount st exponent 0) is)))
+      (rw v (bytes ∙ ap (λ (st : ℕ → ℕ → ℕ). packed (map markBit (spanMarks st exponent 0)) columnBytes ++ drop columnBytes lent) is))

@@ -1,205 +1,219 @@
--- Demands 2 and 3 on the calls' definitions (`cast-demands`, `hit-demands`, `column-demands`): each looked-at tick is marked as if judged alone, the probes
--- are counted as document 01 says and refusals have its numbers, and at every place of every looked-at tick the mark holds of the exact field.
+-- Demands 2 and 3 on the calls' definitions (`cast-demands`, `hit-demands`, `column-demands`): each looked-at tick is marked as if judged alone, the
+-- probes are counted as document 01 says, a first hit's in the full cast's order, refusals have its numbers, and at every place of every looked-at
+-- tick the mark holds of the exact field. A refused call looks at no tick; of an accepted one the solid is valid, so the laws of the halvings and of
+-- a tick judged alone apply.
 use mathlib.Core.Path.{_≡_, refl, sym, ap, _∙_}
 use mathlib.Core.List.{List, [], _∷_, _++_, map}
-use Prim.Native.Nat.{ℕ, _+_, _-_, _/_, _%_, _^_, _≤_}
-use native.Mathlib.Omega.{arith}
+use Prim.Native.Nat.{ℕ, _-_, _/_, _%_, _^_, _≤_}
+use native.Mathlib.Omega.{arith, pow-step}
+use native.Mathlib.Nat.{zero-add}
 use lib.ListN.{length, take, drop, replicate, length-append, List·getD-append}
 use lib.Seq.{getD-take, length-take-le}
 use lib.Dec.{leb}
-use Rattle.part.specs.Accepted.{Tree}
-use Rattle.part.specs.Questions.{firstNo}
-use Rattle.part.specs.File.{count, iso, nodes, fileQuestions, answerOf}
-use Rattle.part.specs.declared.Verdict.{Verdict}
-use Rattle.part.specs.declared.Verdict.the-variants.{Yes, No}
+use lib.Pow.{pow-pos}
+use Rattle.record.specs.Questions.{firstNo}
+use Rattle.part.specs.File.{summary, fileQuestions, answerOf}
+use Rattle.record.specs.declared.Verdict.{Verdict}
+use Rattle.record.specs.declared.Verdict.the-variants.{Yes, No}
 use Rattle.part.specs.declared.Checked.the-variants.{Accepted}
-use Rattle.part.proofs.Questions.{Numbered, numbered-append, no-numbered, yes-append}
+use Rattle.record.proofs.Questions.{Numbered, numbered-append, no-numbered, yes-append}
 use Rattle.part.proofs.File.{file-numbered}
 use Rattle.field.specs.declared.Ray.{Ray}
-use Rattle.field.specs.Loading.{rayInRange, rayQuestions, checkRay}
-use Rattle.field.proofs.Loading.{accepted-ray}
-use Rattle.field.proofs.Marks.{marks-1024}
-use Rattle.cast.specs.declared.CastAnswer.{CastAnswer}
-use Rattle.cast.specs.declared.CastAnswer.the-variants as cast
-use Rattle.cast.specs.declared.HitAnswer.{HitAnswer}
-use Rattle.cast.specs.declared.HitAnswer.the-variants as found
-use Rattle.cast.specs.Halving.{castLookedAt, handed}
-use Rattle.cast.specs.FirstHit.{hitLookedAt}
-use Rattle.cast.specs.Column.{markBit, packed, columnLookedAt}
-use Rattle.cast.specs.Ticks.{rayState, markOf}
+use Rattle.field.specs.Solid.{Solid, Valid, solidOf}
+use Rattle.field.specs.Bounds.{notLookedAt}
+use Rattle.field.proofs.Marks.{marks}
+use Rattle.loading.specs.Loading.{rayInRange, rayQuestions, checkRay}
+use Rattle.loading.proofs.Loading.{accepted-ray}
+use Rattle.halving.specs.declared.CastAnswer.{CastAnswer}
+use Rattle.halving.specs.declared.CastAnswer.the-variants as cast
+use Rattle.halving.specs.declared.HitAnswer.{HitAnswer}
+use Rattle.halving.specs.declared.HitAnswer.the-variants as found
+use Rattle.halving.specs.Halving.{castLookedAt, handed}
+use Rattle.halving.specs.FirstHit.{hitLookedAt}
+use Rattle.halving.proofs.Halving.{Walked, walked, looked-within, count-below, length-marks}
+use Rattle.halving.proofs.FirstHit.{Found, hits}
+use Rattle.halving.proofs.SameOrder.{spent-alike, clear-alike, hit-known}
+use Rattle.cast.specs.Column.{columnBytes, markBit, packed, columnLookedAt}
+use Rattle.cast.specs.Ticks.{exponent, enough, rayState}
 use Rattle.cast.specs.Questions.{endsDiffer, hitQuestions, bufferQuestions}
-use Rattle.cast.specs.Calls.{rayProbes, rayMarks, rayWalk, rayHit, castAfter, fullCast, marksAfter, marksLeft, hitAfter, firstHit, columnAfter, columnAnswer, bitsAfter, bitsLeft}
-use Rattle.cast.specs.Demands.{Sound, Alone, AloneBits, Empty, AloneHit, Counted, CountedHit, CountedColumn, CastDemands, HitDemands, ColumnDemands}
-use Rattle.cast.proofs.Halving.{Walked, walked, looked-within, count-below, length-marks}
-use Rattle.cast.proofs.FirstHit.{Found, hits}
+use Rattle.cast.specs.Calls.{rayProbes, rayMarks, rayWalk, rayHit, castAfter, fullCast, marksAfter, marksLeft}
+use Rattle.cast.specs.Calls.{hitAfter, firstHit, columnAfter, columnAnswer, bitsAfter, bitsLeft}
+use Rattle.cast.specs.Demands.{Sound, Alone, AloneBits, Empty, AloneHit, Counted, CountedHit, SameOrder, CountedColumn}
+use Rattle.cast.specs.Demands.{CastDemands, HitDemands, ColumnDemands}
 use Rattle.cast.proofs.Bits.{length-packed, column-bit}
 use Rattle.cast.proofs.Ticks.{ray-nested, tick-mark, ray-marks-at}
 
-module _ (file : List ℕ) (ray : Ray) where
-  -- ---- accepted calls
+-- ---- accepted calls
 
-  hit-tree : firstNo (hitQuestions file ray) ≡ Yes → Tree (nodes file)
-  unfolding hitQuestions checkRay answerOf
-  hit-tree v =
-      let w = yes-append (rayQuestions file ray) ((13, endsDiffer ray) ∷ []) v .0 in
-      let e : checkRay file ray ≡ Accepted (count file) (iso file) = ap (λ (v : Verdict). answerOf v file) w in
-      accepted-ray file ray e .tree
+pub hit-valid : (file : List ℕ) (ray : Ray) → firstNo (hitQuestions file ray) ≡ Yes → Valid (solidOf file)
+unfolding hitQuestions checkRay answerOf
+hit-valid file ray v =
+    let w = yes-append (rayQuestions file ray) ((13, endsDiffer ray) ∷ []) v .0 in
+    let e : checkRay file ray ≡ Accepted (summary file) = ap (λ (v : Verdict). answerOf v file) w in
+    accepted-ray file ray e .valid
 
-  buffer-tree : (need room : ℕ) → firstNo (bufferQuestions file ray need room) ≡ Yes → Tree (nodes file)
-  unfolding bufferQuestions
-  buffer-tree need room v = hit-tree (yes-append (hitQuestions file ray) ((14, leb need room) ∷ []) v .0)
+buffer-valid : (file : List ℕ) (ray : Ray) (need room : ℕ) → firstNo (bufferQuestions file ray need room) ≡ Yes → Valid (solidOf file)
+unfolding bufferQuestions
+buffer-valid file ray need room v = hit-valid file ray (yes-append (hitQuestions file ray) ((14, leb need room) ∷ []) v .0)
 
+-- ---- refusal numbers
+
+hit-numbered : (file : List ℕ) (ray : Ray) (k : ℕ) → 13 ≤ k → Numbered k (hitQuestions file ray)
+unfolding hitQuestions rayQuestions
+hit-numbered file ray k h =
+    numbered-append k (rayQuestions file ray) ((13, endsDiffer ray) ∷ [])
+    (numbered-append k (fileQuestions file) ((12, rayInRange ray) ∷ []) (file-numbered k (omega arith) file) (omega arith, omega arith, tt))
+    (omega arith, omega arith, tt)
+
+hit-refusal : (file : List ℕ) (ray : Ray) {n : ℕ} → firstNo (hitQuestions file ray) ≡ No n → (1 ≤ n) × (n ≤ 13)
+hit-refusal file ray e = no-numbered 13 (hitQuestions file ray) (hit-numbered file ray 13 (omega arith)) e
+
+buffer-refusal : (file : List ℕ) (ray : Ray) (need room : ℕ) {n : ℕ} → firstNo (bufferQuestions file ray need room) ≡ No n → (1 ≤ n) × (n ≤ 14)
+unfolding bufferQuestions
+buffer-refusal file ray need room e =
+    no-numbered 14 (bufferQuestions file ray need room)
+    (numbered-append 14 (hitQuestions file ray) ((14, leb need room) ∷ []) (hit-numbered file ray 14 (omega arith)) (omega arith, omega arith, tt)) e
+
+module _ (solid : Solid) (ray : Ray) where
   -- ---- demand 3
 
-  sound : Tree (nodes file) → (limit : ℕ) → Sound file ray limit
-  unfolding Sound markOf
-  sound tree limit t h x = marks-1024 ray (nodes file) tree (iso file) t x
-
-  pub no-ticks : Sound file ray 0
+  sound : Valid solid → {T : ℕ} → 1 ≤ T → (limit : ℕ) → Sound solid ray T limit
   unfolding Sound
-  no-ticks t h x = absurd (omega arith)
+  sound valid hT limit t h x = marks solid valid ray t hT x
 
-  by-verdict : (v : Verdict) (looked : Verdict → ℕ) → (v ≡ Yes → Tree (nodes file)) → ((n : ℕ) → looked (No n) ≡ 0) → Sound file ray (looked v)
-  by-verdict Yes looked tree zero = sound (tree refl) (looked Yes)
-  by-verdict (No n) looked tree zero = rw (zero n) no-ticks
+  pub no-ticks : (T : ℕ) → Sound solid ray T 0
+  unfolding Sound
+  no-ticks T t h x = absurd (omega arith)
 
-  cast-sound : (budget room : ℕ) → Sound file ray (castLookedAt 1024 (fullCast file ray budget room))
-  unfolding fullCast castAfter castLookedAt
-  cast-sound budget room =
-      by-verdict (firstNo (bufferQuestions file ray 1024 room)) (λ v. castLookedAt 1024 (castAfter v file ray budget)) (buffer-tree 1024 room) (λ n. refl)
+  -- ---- a ray of 2^k ticks, by the verdict of a call's questions
 
-  hit-sound : (budget : ℕ) → Sound file ray (hitLookedAt 1024 (firstHit file ray budget))
-  unfolding firstHit hitAfter hitLookedAt
-  hit-sound budget = by-verdict (firstNo (hitQuestions file ray)) (λ v. hitLookedAt 1024 (hitAfter v file ray budget)) hit-tree (λ n. refl)
+  module _ (k : ℕ) where
+    abbrev st : ℕ → ℕ → ℕ
+    st = rayState solid ray (2 ^ k)
 
-  column-sound : (room : ℕ) → Sound file ray (columnLookedAt 1024 (columnAnswer file ray room))
-  unfolding columnAnswer columnAfter columnLookedAt
-  column-sound room =
-      by-verdict (firstNo (bufferQuestions file ray 128 room)) (λ v. columnLookedAt 1024 (columnAfter v file ray)) (buffer-tree 128 room) (λ n. refl)
+    at-most : rayProbes solid ray k ≤ enough (2 ^ k)
+    at-most = omega (arith, count-below st k 0, pow-step 2 k)
 
-  -- ---- demand 2: the marks
+    module _ (budget : ℕ) where
+      pub ray-walked : Walked st budget k 0 0 (rayWalk solid ray k budget)
+      ray-walked = walked st budget k 0 0 (omega arith)
 
-  cast-alone : (budget : ℕ) (lent : List ℕ) → Alone file ray (castLookedAt 1024 (fullCast file ray budget (length lent))) (marksLeft file ray budget lent)
-  unfolding fullCast castAfter castLookedAt marksLeft marksAfter handed Alone
-  cast-alone budget lent = go (firstNo (bufferQuestions file ray 1024 (length lent))) refl
-    where
-      go : (v : Verdict) → firstNo (bufferQuestions file ray 1024 (length lent)) ≡ v
-          → Alone file ray (castLookedAt 1024 (castAfter v file ray budget)) (marksAfter v file ray budget lent)
-      go Yes e t h =
-          let looked = castLookedAt 1024 (rayWalk file ray budget) in
-          let few = looked-within (rayState file ray) budget 10 0 0 (rayWalk file ray budget) (walked (rayState file ray) budget 10 0 0 (omega arith)) .1 in
-          let written = take looked (rayMarks file ray) in
-          let long : length written ≡ looked = length-take-le looked (rayMarks file ray) (omega (arith, few, length-marks (rayState file ray) 10 0)) in
-          let rest = replicate {A = ℕ} (1024 - looked) 3 in
-          List·getD-append (written ++ rest) (drop 1024 lent) 3 t (omega (arith, long, length-append written rest))
-          ∙ List·getD-append written rest 3 t (omega (arith, long))
-          ∙ getD-take looked (rayMarks file ray) t 3 h
-          ∙ ray-marks-at file ray (buffer-tree 1024 (length lent) e) t 3 (omega (arith, few))
-      go (No n) e t h = absurd (omega arith)
+      -- it looks at no more ticks than there are
+      looked-few : castLookedAt (2 ^ k) (rayWalk solid ray k budget) ≤ 2 ^ k
+      looked-few = rw zero-add at (looked-within st budget k 0 0 (rayWalk solid ray k budget) ray-walked .1)
 
-  column-alone : (lent : List ℕ) → AloneBits file ray (columnLookedAt 1024 (columnAnswer file ray (length lent))) (bitsLeft file ray lent)
-  unfolding columnAnswer columnAfter columnLookedAt bitsLeft bitsAfter AloneBits
-  column-alone lent = go (firstNo (bufferQuestions file ray 128 (length lent))) refl
-    where
-      go : (v : Verdict) → firstNo (bufferQuestions file ray 128 (length lent)) ≡ v
-          → AloneBits file ray (columnLookedAt 1024 (columnAfter v file ray)) (bitsAfter v file ray lent)
-      go Yes e t h =
-          let bytes = packed (map markBit (rayMarks file ray)) 128 in
-          ap (λ (byte : ℕ). byte / 2 ^ (t % 8) % 2) (List·getD-append bytes (drop 128 lent) 0 (t / 8) (omega (arith, length-packed (map markBit (rayMarks file ray)) 128)))
-          ∙ column-bit (rayMarks file ray) 128 t (omega arith)
-          ∙ ap markBit (ray-marks-at file ray (buffer-tree 128 (length lent) e) t 3 h)
-      go (No n) e t h = absurd (omega arith)
+      handed-alone : Valid solid → (lent : List ℕ)
+          → Alone solid ray (2 ^ k) (castLookedAt (2 ^ k) (rayWalk solid ray k budget)) (marksAfter Yes solid ray k budget lent)
+      unfolding marksAfter handed Alone
+      handed-alone valid lent t h =
+          let looked = castLookedAt (2 ^ k) (rayWalk solid ray k budget) in
+          let written = take looked (rayMarks solid ray k) in
+          let long : length written ≡ looked = length-take-le looked (rayMarks solid ray k) (omega (arith, looked-few, length-marks st k 0)) in
+          let rest = replicate {A = ℕ} (2 ^ k - looked) notLookedAt in
+          List·getD-append (written ++ rest) (drop (2 ^ k) lent) notLookedAt t (omega (arith, long, length-append written rest))
+          ∙ List·getD-append written rest notLookedAt t (omega (arith, long))
+          ∙ getD-take looked (rayMarks solid ray k) t notLookedAt h
+          ∙ ray-marks-at solid valid ray k t notLookedAt (omega (arith, looked-few))
 
-  -- ---- the probes and the refusal numbers
+      walk-counted : (w : CastAnswer) → Walked st budget k 0 0 w → Counted solid ray k budget w
+      unfolding Counted
+      walk-counted (cast.Complete p) (is, in-budget) = (omega arith, omega arith, at-most)
+      walk-counted (cast.Spent t p) (is, more, from, before) = (omega arith, is, omega arith, at-most)
 
-  hit-numbered : (k : ℕ) → 13 ≤ k → Numbered k (hitQuestions file ray)
-  unfolding hitQuestions rayQuestions
-  hit-numbered k h =
-      numbered-append k (rayQuestions file ray) ((13, endsDiffer ray) ∷ [])
-      (numbered-append k (fileQuestions file) ((12, rayInRange ray) ∷ []) (file-numbered k (omega arith) file) (omega arith, omega arith, tt))
-      (omega arith, omega arith, tt)
+      found-counted : (f : HitAnswer) → Found st budget k 0 0 f → CountedHit solid ray k budget f
+      unfolding CountedHit
+      found-counted (found.Hit t s p) (from, before, is, some, empty, few, in-budget) = (in-budget, omega arith, at-most)
+      found-counted (found.Clear p) (empty, is, in-budget) = (omega arith, omega arith, at-most)
+      found-counted (found.Spent t p) (from, before, empty, all, more) = (all, omega arith, at-most)
 
-  hit-refusal : {n : ℕ} → firstNo (hitQuestions file ray) ≡ No n → (1 ≤ n) × (n ≤ 13)
-  hit-refusal e = no-numbered 13 (hitQuestions file ray) (hit-numbered 13 (omega arith)) e
+      found-alone : (f : HitAnswer) → Found st budget k 0 0 f → AloneHit solid ray (2 ^ k) f
+      unfolding AloneHit Empty
+      found-alone (found.Hit t s p) (from, before, is, some, empty, few, in-budget) =
+          (omega arith, sym (tick-mark solid ray (2 ^ k) t) ∙ is, some, λ j h. sym (tick-mark solid ray (2 ^ k) j) ∙ empty j (omega arith) h)
+      found-alone (found.Clear p) (empty, is, in-budget) = λ j h. sym (tick-mark solid ray (2 ^ k) j) ∙ empty j (omega arith) (omega arith)
+      found-alone (found.Spent t p) (from, before, empty, all, more) =
+          (omega arith, λ j h. sym (tick-mark solid ray (2 ^ k) j) ∙ empty j (omega arith) h)
 
-  buffer-refusal : (need room : ℕ) {n : ℕ} → firstNo (bufferQuestions file ray need room) ≡ No n → (1 ≤ n) × (n ≤ 14)
-  unfolding bufferQuestions
-  buffer-refusal need room e =
-      no-numbered 14 (bufferQuestions file ray need room)
-      (numbered-append 14 (hitQuestions file ray) ((14, leb need room) ∷ []) (hit-numbered 14 (omega arith)) (omega arith, omega arith, tt)) e
+      hit-order : (f : HitAnswer) → rayHit solid ray k budget ≡ f → SameOrder solid ray k budget f
+      unfolding SameOrder
+      hit-order (found.Refused n) e = tt
+      hit-order (found.Hit t s p) e = λ b. rw zero-add at (hit-known st budget k 0 0 e b)
+      hit-order (found.Clear p) e = clear-alike st budget k 0 0 e
+      hit-order (found.Spent t p) e = spent-alike st budget k 0 0 e
 
-  at-most : rayProbes file ray ≤ 2047
-  at-most = omega (arith, count-below (rayState file ray) 10 0)
+      pub ray-found : Valid solid → Found st budget k 0 0 (rayHit solid ray k budget)
+      ray-found valid = hits st budget (ray-nested solid valid ray (pow-pos k)) k 0 0 (omega arith)
 
-  cast-counted : (budget room : ℕ) → Counted file ray budget (fullCast file ray budget room)
-  unfolding fullCast castAfter Counted
-  cast-counted budget room = go (firstNo (bufferQuestions file ray 1024 room)) refl
-    where
-      by-answer : (w : CastAnswer) → Walked (rayState file ray) budget 10 0 0 w → Counted file ray budget w
-      by-answer (cast.Complete p) (is, in-budget) = (omega arith, omega arith, at-most)
-      by-answer (cast.Spent t p) (is, more, from, before) = (before, is, omega arith, at-most)
+      -- ---- the demands of a call, by the verdict of its questions
 
-      go : (v : Verdict) → firstNo (bufferQuestions file ray 1024 room) ≡ v → Counted file ray budget (castAfter v file ray budget)
-      go Yes e = by-answer (rayWalk file ray budget) (walked (rayState file ray) budget 10 0 0 (omega arith))
-      go (No n) e = buffer-refusal 1024 room e
+      pub cast-by : (v : Verdict) (lent : List ℕ) → (v ≡ Yes → Valid solid) → ((n : ℕ) → v ≡ No n → (1 ≤ n) × (n ≤ 14))
+          → CastDemands solid ray k budget (castAfter v solid ray k budget) (marksAfter v solid ray k budget lent)
+      unfolding castAfter marksAfter castLookedAt Alone Counted
+      cast-by Yes lent valid number = record {
+        alone = handed-alone (valid refl) lent;
+        counted = walk-counted (rayWalk solid ray k budget) ray-walked;
+        sound = sound (valid refl) (pow-pos k) (castLookedAt (2 ^ k) (rayWalk solid ray k budget));
+      }
+      cast-by (No n) lent valid number = record { alone = λ t h. absurd (omega arith); counted = number n refl; sound = no-ticks (2 ^ k) }
 
-  column-counted : (room : ℕ) → CountedColumn file ray (columnAnswer file ray room)
-  unfolding columnAnswer columnAfter CountedColumn
-  column-counted room = go (firstNo (bufferQuestions file ray 128 room)) refl
-    where
-      go : (v : Verdict) → firstNo (bufferQuestions file ray 128 room) ≡ v → CountedColumn file ray (columnAfter v file ray)
-      go Yes e = (refl, at-most)
-      go (No n) e = buffer-refusal 128 room e
+      pub hit-by : (v : Verdict) → (v ≡ Yes → Valid solid) → ((n : ℕ) → v ≡ No n → (1 ≤ n) × (n ≤ 13))
+          → HitDemands solid ray k budget (hitAfter v solid ray k budget)
+      unfolding hitAfter hitLookedAt AloneHit CountedHit SameOrder
+      hit-by Yes valid number = record {
+        alone = found-alone (rayHit solid ray k budget) (ray-found (valid refl));
+        counted = found-counted (rayHit solid ray k budget) (ray-found (valid refl));
+        order = hit-order (rayHit solid ray k budget) refl;
+        sound = sound (valid refl) (pow-pos k) (hitLookedAt (2 ^ k) (rayHit solid ray k budget));
+      }
+      hit-by (No n) valid number = record { alone = tt; counted = number n refl; order = tt; sound = no-ticks (2 ^ k) }
 
-  -- ---- the first hit
+  -- ---- a column has 2^exponent ticks
 
-  pub ray-found : firstNo (hitQuestions file ray) ≡ Yes → (budget : ℕ) → Found (rayState file ray) budget 10 0 0 (rayHit file ray budget)
-  ray-found e budget = hits (rayState file ray) budget (ray-nested file ray (hit-tree e)) 10 0 0 (omega arith)
+  column-alone : Valid solid → (lent : List ℕ) → AloneBits solid ray (2 ^ exponent) (2 ^ exponent) (bitsAfter Yes solid ray lent)
+  unfolding bitsAfter AloneBits
+  column-alone valid lent t h =
+      let bits = map markBit (rayMarks solid ray exponent) in
+      let bytes = packed bits columnBytes in
+      ap (λ (byte : ℕ). byte / 2 ^ (t % 8) % 2)
+      (List·getD-append bytes (drop columnBytes lent) 0 (t / 8) (omega (arith, length-packed bits columnBytes)))
+      ∙ column-bit (rayMarks solid ray exponent) columnBytes t (omega arith)
+      ∙ ap markBit (ray-marks-at solid valid ray exponent t notLookedAt h)
 
-  hit-counted : (budget : ℕ) → CountedHit file ray budget (firstHit file ray budget)
-  unfolding firstHit hitAfter CountedHit
-  hit-counted budget = go (firstNo (hitQuestions file ray)) refl
-    where
-      by-answer : (f : HitAnswer) → Found (rayState file ray) budget 10 0 0 f → CountedHit file ray budget f
-      by-answer (found.Hit t s p) (from, before, is, some, empty, few, in-budget) = (in-budget, omega arith, at-most)
-      by-answer (found.Clear p) (empty, is, in-budget) = (omega arith, omega arith, at-most)
-      by-answer (found.Spent t p) (from, before, empty, all, more) = (all, omega arith, at-most)
+  column-by : (v : Verdict) (lent : List ℕ) → (v ≡ Yes → Valid solid) → ((n : ℕ) → v ≡ No n → (1 ≤ n) × (n ≤ 14))
+      → ColumnDemands solid ray exponent (columnAfter v solid ray) (bitsAfter v solid ray lent)
+  unfolding columnAfter bitsAfter columnLookedAt AloneBits CountedColumn
+  column-by Yes lent valid number = record {
+    alone = column-alone (valid refl) lent;
+    counted = (refl, at-most exponent);
+    sound = sound (valid refl) (pow-pos exponent) (2 ^ exponent);
+  }
+  column-by (No n) lent valid number = record { alone = λ t h. absurd (omega arith); counted = number n refl; sound = no-ticks (2 ^ exponent) }
 
-      go : (v : Verdict) → firstNo (hitQuestions file ray) ≡ v → CountedHit file ray budget (hitAfter v file ray budget)
-      go Yes e = by-answer (rayHit file ray budget) (ray-found e budget)
-      go (No n) e = hit-refusal e
-
-  hit-alone : (budget : ℕ) → AloneHit file ray (firstHit file ray budget)
-  unfolding firstHit hitAfter AloneHit Empty
-  hit-alone budget = go (firstNo (hitQuestions file ray)) refl
-    where
-      by-answer : (f : HitAnswer) → Found (rayState file ray) budget 10 0 0 f → AloneHit file ray f
-      by-answer (found.Hit t s p) (from, before, is, some, empty, few, in-budget) =
-          (before, sym (tick-mark file ray t) ∙ is, some, λ j h. sym (tick-mark file ray j) ∙ empty j (omega arith) h)
-      by-answer (found.Clear p) (empty, is, in-budget) = λ j h. sym (tick-mark file ray j) ∙ empty j (omega arith) h
-      by-answer (found.Spent t p) (from, before, empty, all, more) =
-          (before, λ j h. sym (tick-mark file ray j) ∙ empty j (omega arith) h)
-
-      go : (v : Verdict) → firstNo (hitQuestions file ray) ≡ v → AloneHit file ray (hitAfter v file ray budget)
-      go Yes e = by-answer (rayHit file ray budget) (ray-found e budget)
-      go (No n) e = tt
-
-  -- it looks at no more ticks than there are
-  pub hit-within : (f : HitAnswer) → AloneHit file ray f → hitLookedAt 1024 f ≤ 1024
+  -- a first hit looks at no more ticks than there are
+  pub hit-within : (T : ℕ) (f : HitAnswer) → AloneHit solid ray T f → hitLookedAt T f ≤ T
   unfolding AloneHit hitLookedAt
-  hit-within (found.Refused n) alone = omega arith
-  hit-within (found.Hit t s p) (before, is, some, empty) = omega arith
-  hit-within (found.Clear p) alone = omega arith
-  hit-within (found.Spent t p) (before, empty) = omega arith
+  hit-within T (found.Refused n) alone = omega arith
+  hit-within T (found.Hit t s p) (before, is, some, empty) = omega arith
+  hit-within T (found.Clear p) alone = omega arith
+  hit-within T (found.Spent t p) (before, empty) = omega arith
 
-  -- ---- together
+-- ---- document 01's calls
 
-  pub cast-demands : (budget : ℕ) (lent : List ℕ) → CastDemands file ray budget (fullCast file ray budget (length lent)) (marksLeft file ray budget lent)
+module _ (file : List ℕ) (ray : Ray) where
+  pub cast-demands : (budget : ℕ) (lent : List ℕ)
+      → CastDemands (solidOf file) ray exponent budget (fullCast file ray budget (length lent)) (marksLeft file ray budget lent)
+  unfolding fullCast marksLeft
   cast-demands budget lent =
-      record { alone = cast-alone budget lent; counted = cast-counted budget (length lent); sound = cast-sound budget (length lent) }
+      cast-by (solidOf file) ray exponent budget (firstNo (bufferQuestions file ray (2 ^ exponent) (length lent))) lent
+      (buffer-valid file ray (2 ^ exponent) (length lent)) (λ n e. buffer-refusal file ray (2 ^ exponent) (length lent) e)
 
-  pub hit-demands : (budget : ℕ) → HitDemands file ray budget (firstHit file ray budget)
-  hit-demands budget = record { alone = hit-alone budget; counted = hit-counted budget; sound = hit-sound budget }
+  pub hit-demands : (budget : ℕ) → HitDemands (solidOf file) ray exponent budget (firstHit file ray budget)
+  unfolding firstHit
+  hit-demands budget =
+      hit-by (solidOf file) ray exponent budget (firstNo (hitQuestions file ray)) (hit-valid file ray) (λ n e. hit-refusal file ray e)
 
-  pub column-demands : (lent : List ℕ) → ColumnDemands file ray (columnAnswer file ray (length lent)) (bitsLeft file ray lent)
-  column-demands lent = record { alone = column-alone lent; counted = column-counted (length lent); sound = column-sound (length lent) }
+  pub column-demands : (lent : List ℕ) → ColumnDemands (solidOf file) ray exponent (columnAnswer file ray (length lent)) (bitsLeft file ray lent)
+  unfolding columnAnswer bitsLeft
+  column-demands lent =
+      column-by (solidOf file) ray (firstNo (bufferQuestions file ray columnBytes (length lent))) lent
+      (buffer-valid file ray columnBytes (length lent)) (λ n e. buffer-refusal file ray columnBytes (length lent) e)

@@ -1,9 +1,6 @@
 pub mod Questions
-pub mod Halving
-pub mod FirstHit
 pub mod Bits
 pub mod Ticks
 pub mod Demands
-pub mod Span
+pub mod Columns
 pub mod Calls
-pub mod Cases

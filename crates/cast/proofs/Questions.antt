@@ -4,13 +4,14 @@ use Prim.Native.Nat.{ℕ}
 use mathlib.Core.Path.{_≡_, refl}
 use mathlib.Core.List.{List, [], _∷_, _++_}
 use mathlib.Core.Bool.{Bool, true, false}
-use Rattle.part.specs.Questions.{Question, firstNo}
+use Rattle.record.specs.Questions.{Question, firstNo}
 use Rattle.part.specs.File.{answerOf}
+use Rattle.part.specs.declared.Summary.{Summary}
 use Rattle.part.specs.declared.Checked.{Checked}
 use Rattle.part.specs.declared.Checked.the-variants.{Accepted, Refused}
-use Rattle.part.specs.declared.Verdict.{Verdict}
-use Rattle.part.specs.declared.Verdict.the-variants.{Yes, No}
-use Rattle.part.proofs.Questions.{next, firstNo-append, yes-append}
+use Rattle.record.specs.declared.Verdict.{Verdict}
+use Rattle.record.specs.declared.Verdict.the-variants.{Yes, No}
+use Rattle.record.proofs.Questions.{next, firstNo-append, yes-append}
 use Rattle.part.proofs.File.{answer-accepted}
 use Rattle.cast.specs.Questions.{alsoAsked}
 
@@ -18,7 +19,7 @@ use Rattle.cast.specs.Questions.{alsoAsked}
 pub also-yes : (answer : Checked) (number : ℕ) → answer ≡ alsoAsked answer number true
 unfolding alsoAsked
 also-yes (Refused first) number = refl
-also-yes (Accepted n i) number = refl
+also-yes (Accepted part) number = refl
 
 asked-after : (v : Verdict) (file : List ℕ) (number : ℕ) (b : Bool)
     → alsoAsked (answerOf v file) number b ≡ answerOf (next v (firstNo ((number, b) ∷ []))) file
@@ -32,8 +33,8 @@ pub also-asked : (qs : List Question) (file : List ℕ) (number : ℕ) (b : Bool
 also-asked qs file number b = rw (firstNo-append qs ((number, b) ∷ [])) (asked-after (firstNo qs) file number b)
 
 -- a list that is answered yes with more questions after it
-pub asked-before : (qs more : List Question) (file : List ℕ) {n i : ℕ} → answerOf (firstNo (qs ++ more)) file ≡ Accepted n i
-    → answerOf (firstNo qs) file ≡ Accepted n i
+pub asked-before : (qs more : List Question) (file : List ℕ) {part : Summary} → answerOf (firstNo (qs ++ more)) file ≡ Accepted part
+    → answerOf (firstNo qs) file ≡ Accepted part
 asked-before qs more file e =
     let v = answer-accepted (firstNo (qs ++ more)) file e in
     rw (yes-append qs more v .0) (rw v at e)

@@ -4,12 +4,17 @@ use mathlib.Core.List.{List, [], _∷_, _++_}
 use mathlib.Core.Bool.{cond, _||_}
 use lib.ListN.{take, drop}
 use lib.Dec.{eqb}
+use Rattle.field.specs.Bounds.{crossingMark, insideMark}
 use Rattle.cast.specs.declared.ColumnAnswer.{ColumnAnswer}
 use Rattle.cast.specs.declared.ColumnAnswer.the-variants.{Refused, Complete}
 
+-- 128 bytes for 1,024 ticks
+abbrev pub columnBytes : ℕ
+columnBytes = 128
+
 -- a mark's bit: 1 if it is inside or crossing
 unfoldable pub markBit : ℕ → ℕ
-markBit mark = cond (eqb mark 1 || eqb mark 2) 1 0
+markBit mark = cond (eqb mark crossingMark || eqb mark insideMark) 1 0
 
 -- the number of some bits, the first one lowest
 unfoldable pub fromBits : List ℕ → ℕ
@@ -24,6 +29,11 @@ byteAt bits at = fromBits (take 8 (drop at bits))
 unfoldable pub packed : List ℕ → ℕ → List ℕ
 packed bits zero = []
 packed bits (suc n) = packed bits n ++ byteAt bits (8 * n) ∷ []
+
+-- document 01's number for each case of an answer: "the refusal number or 65,536 + probes"
+unfoldable pub columnNumber : ColumnAnswer → ℕ
+columnNumber (Refused number) = number
+columnNumber (Complete probes) = 65536 + probes
 
 -- how many of n ticks were looked at: none if it is refused, otherwise all
 unfoldable pub columnLookedAt : ℕ → ColumnAnswer → ℕ

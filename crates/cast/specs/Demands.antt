@@ -1,84 +1,102 @@
--- What the casting calls promise beside their equations (demands 2 and 3).
+-- What the casting calls promise beside their equations (demands 2 and 3), of a solid and a ray. What speaks of marks alone holds for any number T of
+-- ticks; what speaks of the halvings, for 2^k.
 use mathlib.Core.Path.{_≡_}
 use mathlib.Core.List.{List}
 use Prim.Native.Nat.{ℕ, _/_, _%_, _^_, _≤_, _<_}
 use lib.ListN.{getD}
-use Rattle.part.specs.File.{iso, nodes}
 use Rattle.field.specs.declared.Ray.{Ray}
 use Rattle.field.specs.Ray.{tick, Place}
-use Rattle.field.specs.Kernel.{quartic}
+use Rattle.field.specs.Solid.{Solid}
 use Rattle.field.specs.Field.{fieldAt}
 use Rattle.field.specs.Tolerance.{demanded}
-use Rattle.field.specs.Marks.{SoundMark}
-use Rattle.cast.specs.declared.CastAnswer.{CastAnswer}
-use Rattle.cast.specs.declared.CastAnswer.the-variants as cast
-use Rattle.cast.specs.declared.HitAnswer.{HitAnswer}
-use Rattle.cast.specs.declared.HitAnswer.the-variants as found
+use Rattle.field.specs.Bounds.{emptyMark, notLookedAt}
+use Rattle.field.specs.Marks.{markOf, SoundMark}
+use Rattle.halving.specs.declared.CastAnswer.{CastAnswer}
+use Rattle.halving.specs.declared.CastAnswer.the-variants as cast
+use Rattle.halving.specs.declared.HitAnswer.{HitAnswer}
+use Rattle.halving.specs.declared.HitAnswer.the-variants as found
+use Rattle.halving.specs.Halving.{castLookedAt}
+use Rattle.halving.specs.FirstHit.{hitLookedAt}
 use Rattle.cast.specs.declared.ColumnAnswer.{ColumnAnswer}
 use Rattle.cast.specs.declared.ColumnAnswer.the-variants as column
-use Rattle.cast.specs.Ticks.{markOf}
-use Rattle.cast.specs.Halving.{castLookedAt}
-use Rattle.cast.specs.FirstHit.{hitLookedAt}
 use Rattle.cast.specs.Column.{markBit, columnLookedAt}
-use Rattle.cast.specs.Calls.{rayProbes}
+use Rattle.cast.specs.Ticks.{enough}
+use Rattle.cast.specs.Calls.{rayProbes, rayWalk}
 
--- Demand 3: "this holds at every place, whole or fractional, of every tick looked at", the first `limit` ones
-unfoldable pub Sound : List ℕ → Ray → ℕ → Type 0
-Sound file ray limit =
-    (t : ℕ) → t < limit → (x : Place (tick t 1024)) → SoundMark (iso file) (markOf file ray t) (fieldAt quartic ray (x .n) (x .m) (nodes file)) (demanded ray (nodes file))
+module _ (solid : Solid) (ray : Ray) (T : ℕ) where
+  -- Demand 3: "this holds at every place, whole or fractional, of every tick looked at", the first `limit` ones
+  unfoldable pub Sound : ℕ → Type 0
+  Sound limit =
+      (t : ℕ) → t < limit → (x : Place (tick t T))
+      → SoundMark (solid .iso) (markOf solid ray T t) (fieldAt solid ray (x .n) (x .m)) (demanded solid ray T)
 
--- Demand 2: "each looked-at tick being marked the same as if it had been judged alone". The first `limit` bytes are the ticks' marks.
-unfoldable pub Alone : List ℕ → Ray → ℕ → List ℕ → Type 0
-Alone file ray limit bytes = (t : ℕ) → t < limit → getD bytes t 3 ≡ markOf file ray t
+  -- Demand 2: "each looked-at tick being marked the same as if it had been judged alone". The first `limit` bytes are the ticks' marks.
+  unfoldable pub Alone : ℕ → List ℕ → Type 0
+  Alone limit bytes = (t : ℕ) → t < limit → getD bytes t notLookedAt ≡ markOf solid ray T t
 
--- the same of a column's bits
-unfoldable pub AloneBits : List ℕ → Ray → ℕ → List ℕ → Type 0
-AloneBits file ray limit bytes = (t : ℕ) → t < limit → getD bytes (t / 8) 0 / 2 ^ (t % 8) % 2 ≡ markBit (markOf file ray t)
+  -- the same of a column's bits
+  unfoldable pub AloneBits : ℕ → List ℕ → Type 0
+  AloneBits limit bytes = (t : ℕ) → t < limit → getD bytes (t / 8) 0 / 2 ^ (t % 8) % 2 ≡ markBit (markOf solid ray T t)
 
--- every tick from the first on and before `limit` is empty
-unfoldable pub Empty : List ℕ → Ray → ℕ → Type 0
-Empty file ray limit = (t : ℕ) → t < limit → markOf file ray t ≡ 0
+  -- every tick from the first on and before `limit` is empty
+  unfoldable pub Empty : ℕ → Type 0
+  Empty limit = (t : ℕ) → t < limit → markOf solid ray T t ≡ emptyMark
 
--- "the first tick not empty with its mark, or clear, or spent with the tick reached", each tick judged alone
-unfoldable pub AloneHit : List ℕ → Ray → HitAnswer → Type 0
-AloneHit file ray (found.Refused number) = Unit {0}
-AloneHit file ray (found.Hit tick mark probes) = (tick < 1024) × (markOf file ray tick ≡ mark) × (1 ≤ mark) × Empty file ray tick
-AloneHit file ray (found.Clear probes) = Empty file ray 1024
-AloneHit file ray (found.Spent tick probes) = (tick < 1024) × Empty file ray tick
+  -- "the first tick not empty with its mark, or clear, or spent with the tick reached", each tick judged alone
+  unfoldable pub AloneHit : HitAnswer → Type 0
+  AloneHit (found.Refused number) = Unit {0}
+  AloneHit (found.Hit tick mark probes) = (tick < T) × (markOf solid ray T tick ≡ mark) × (1 ≤ mark) × Empty tick
+  AloneHit (found.Clear probes) = Empty T
+  AloneHit (found.Spent tick probes) = (tick < T) × Empty tick
 
--- "a full cast is spent exactly when the probe count of the whole ray is more than its budget; the probes it reports are the smaller of the two", and
--- "A full cast takes at most 2,047", so "A budget of 2,047 is always enough." Spent, it leaves ticks not looked at. A refusal is 1 to 14.
-unfoldable pub Counted : List ℕ → Ray → ℕ → CastAnswer → Type 0
-Counted file ray budget (cast.Refused number) = (1 ≤ number) × (number ≤ 14)
-Counted file ray budget (cast.Complete probes) = (probes ≡ rayProbes file ray) × (rayProbes file ray ≤ budget) × (rayProbes file ray ≤ 2047)
-Counted file ray budget (cast.Spent tick probes) = (tick < 1024) × (probes ≡ budget) × (budget < rayProbes file ray) × (rayProbes file ray ≤ 2047)
+module _ (solid : Solid) (ray : Ray) (k : ℕ) where
+  -- "a full cast is spent exactly when the probe count of the whole ray is more than its budget; the probes it reports are the smaller of the two",
+  -- and there is a budget that "is always enough". Spent, it leaves ticks not looked at. A refusal is 1 to 14.
+  unfoldable pub Counted : ℕ → CastAnswer → Type 0
+  Counted budget (cast.Refused number) = (1 ≤ number) × (number ≤ 14)
+  Counted budget (cast.Complete probes) =
+      (probes ≡ rayProbes solid ray k) × (rayProbes solid ray k ≤ budget) × (rayProbes solid ray k ≤ enough (2 ^ k))
+  Counted budget (cast.Spent tick probes) =
+      (tick < 2 ^ k) × (probes ≡ budget) × (budget < rayProbes solid ray k) × (rayProbes solid ray k ≤ enough (2 ^ k))
 
--- a first hit, "always the probes": a clear ray's are the full cast's, a hit's are no more, and a spent search has made its whole budget, which is less
--- than the full cast's. A refusal is 1 to 13.
-unfoldable pub CountedHit : List ℕ → Ray → ℕ → HitAnswer → Type 0
-CountedHit file ray budget (found.Refused number) = (1 ≤ number) × (number ≤ 13)
-CountedHit file ray budget (found.Hit tick mark probes) = (probes ≤ budget) × (probes ≤ rayProbes file ray) × (rayProbes file ray ≤ 2047)
-CountedHit file ray budget (found.Clear probes) = (probes ≡ rayProbes file ray) × (rayProbes file ray ≤ budget) × (rayProbes file ray ≤ 2047)
-CountedHit file ray budget (found.Spent tick probes) = (probes ≡ budget) × (budget < rayProbes file ray) × (rayProbes file ray ≤ 2047)
+  -- a first hit, "always the probes": a clear ray's are the full cast's, a hit's are no more, and a spent search has made its whole budget, which is
+  -- less than the full cast's. A refusal is 1 to 13.
+  unfoldable pub CountedHit : ℕ → HitAnswer → Type 0
+  CountedHit budget (found.Refused number) = (1 ≤ number) × (number ≤ 13)
+  CountedHit budget (found.Hit tick mark probes) = (probes ≤ budget) × (probes ≤ rayProbes solid ray k) × (rayProbes solid ray k ≤ enough (2 ^ k))
+  CountedHit budget (found.Clear probes) =
+      (probes ≡ rayProbes solid ray k) × (rayProbes solid ray k ≤ budget) × (rayProbes solid ray k ≤ enough (2 ^ k))
+  CountedHit budget (found.Spent tick probes) = (probes ≡ budget) × (budget < rayProbes solid ray k) × (rayProbes solid ray k ≤ enough (2 ^ k))
 
--- a column: "the probes, which are the full cast's". A refusal is 1 to 14.
-unfoldable pub CountedColumn : List ℕ → Ray → ColumnAnswer → Type 0
-CountedColumn file ray (column.Refused number) = (1 ≤ number) × (number ≤ 14)
-CountedColumn file ray (column.Complete probes) = (probes ≡ rayProbes file ray) × (rayProbes file ray ≤ 2047)
+  -- "It probes in the same order and stops as soon as that tick is known": a hit's probes are the least budget with which the full cast looks at its
+  -- tick, and a first hit that is clear or spent is a full cast that is complete, or spent at the same tick, with the same probes
+  unfoldable pub SameOrder : ℕ → HitAnswer → Type 0
+  SameOrder budget (found.Refused number) = Unit {0}
+  SameOrder budget (found.Hit tick mark probes) =
+      (b : ℕ)
+      → (probes ≤ b → tick < castLookedAt (2 ^ k) (rayWalk solid ray k b)) × (b < probes → castLookedAt (2 ^ k) (rayWalk solid ray k b) ≤ tick)
+  SameOrder budget (found.Clear probes) = rayWalk solid ray k budget ≡ cast.Complete probes
+  SameOrder budget (found.Spent tick probes) = rayWalk solid ray k budget ≡ cast.Spent tick probes
 
--- ---- demands 2 and 3 of a call's answer, and of the bytes afterwards in the buffer that was lent
+  -- a column: "the probes, which are the full cast's". A refusal is 1 to 14.
+  unfoldable pub CountedColumn : ColumnAnswer → Type 0
+  CountedColumn (column.Refused number) = (1 ≤ number) × (number ≤ 14)
+  CountedColumn (column.Complete probes) = (probes ≡ rayProbes solid ray k) × (rayProbes solid ray k ≤ enough (2 ^ k))
 
-pub record CastDemands (file : List ℕ) (ray : Ray) (budget : ℕ) (answer : CastAnswer) (after : List ℕ) : Type 0 where
-  pub alone : Alone file ray (castLookedAt 1024 answer) after
-  pub counted : Counted file ray budget answer
-  pub sound : Sound file ray (castLookedAt 1024 answer)
+  -- ---- demands 2 and 3 of a call's answer, and of the bytes afterwards in the buffer that was lent
 
-pub record HitDemands (file : List ℕ) (ray : Ray) (budget : ℕ) (answer : HitAnswer) : Type 0 where
-  pub alone : AloneHit file ray answer
-  pub counted : CountedHit file ray budget answer
-  pub sound : Sound file ray (hitLookedAt 1024 answer)
+  pub record CastDemands (budget : ℕ) (answer : CastAnswer) (after : List ℕ) : Type 0 where
+    pub alone : Alone solid ray (2 ^ k) (castLookedAt (2 ^ k) answer) after
+    pub counted : Counted budget answer
+    pub sound : Sound solid ray (2 ^ k) (castLookedAt (2 ^ k) answer)
 
-pub record ColumnDemands (file : List ℕ) (ray : Ray) (answer : ColumnAnswer) (after : List ℕ) : Type 0 where
-  pub alone : AloneBits file ray (columnLookedAt 1024 answer) after
-  pub counted : CountedColumn file ray answer
-  pub sound : Sound file ray (columnLookedAt 1024 answer)
+  pub record HitDemands (budget : ℕ) (answer : HitAnswer) : Type 0 where
+    pub alone : AloneHit solid ray (2 ^ k) answer
+    pub counted : CountedHit budget answer
+    pub order : SameOrder budget answer
+    pub sound : Sound solid ray (2 ^ k) (hitLookedAt (2 ^ k) answer)
+
+  pub record ColumnDemands (answer : ColumnAnswer) (after : List ℕ) : Type 0 where
+    pub alone : AloneBits solid ray (2 ^ k) (columnLookedAt (2 ^ k) answer) after
+    pub counted : CountedColumn answer
+    pub sound : Sound solid ray (2 ^ k) (columnLookedAt (2 ^ k) answer)

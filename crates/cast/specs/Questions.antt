@@ -4,13 +4,13 @@ use mathlib.Core.List.{List, [], _∷_, _++_}
 use mathlib.Core.Bool.{Bool, cond, not, _&&_}
 use lib.Dec.{leb}
 use Rattle.exact.specs.Range.{eqℤ}
-use Rattle.part.specs.Questions.{Question, firstNo}
+use Rattle.record.specs.Questions.{Question, firstNo}
 use Rattle.part.specs.File.{answerOf}
 use Rattle.part.specs.declared.Checked.{Checked}
 use Rattle.part.specs.declared.Checked.the-variants.{Accepted, Refused}
 use Rattle.field.specs.declared.Position.{Position}
 use Rattle.field.specs.declared.Ray.{Ray}
-use Rattle.field.specs.Loading.{rayQuestions}
+use Rattle.loading.specs.Loading.{rayQuestions}
 
 abbrev pub samePosition : Position → Position → Bool
 samePosition p q = eqℤ (p .x) (q .x) && eqℤ (p .y) (q .y) && eqℤ (p .z) (q .z)
@@ -37,4 +37,4 @@ checkBuffer file ray need room = answerOf (firstNo (bufferQuestions file ray nee
 -- an answer, and one more question after it
 unfoldable pub alsoAsked : Checked → ℕ → Bool → Checked
 alsoAsked (Refused first) number test = Refused first
-alsoAsked (Accepted n i) number test = cond test (Accepted n i) (Refused number)
+alsoAsked (Accepted part) number test = cond test (Accepted part) (Refused number)

@@ -1,26 +1,18 @@
--- The ticks of a ray: the state of a span of them, and a tick's mark (document 01, "Marks and probes"). The calls cut a ray into 1,024 = 2^10 ticks.
-use Prim.Native.Nat.{ℕ, _+_}
-use mathlib.Core.List.{List}
-use Rattle.part.specs.declared.Node.{Node}
-use Rattle.part.specs.File.{iso, nodes}
+-- The ticks of a ray: the state of a span of them, for any number T of ticks; and the number that document 01's calls cut a ray into.
+use Prim.Native.Nat.{ℕ, _*_, _-_}
 use Rattle.field.specs.declared.Ray.{Ray}
-use Rattle.field.specs.declared.Span.{Span}
-use Rattle.field.specs.Kernel.{Kernel, quartic}
-use Rattle.field.specs.Bounds.{treeBounds, stateOf}
-use Rattle.field.specs.Marks.{tickState}
+use Rattle.field.specs.Ray.{ticks}
+use Rattle.field.specs.Solid.{Solid}
+use Rattle.field.specs.Marks.{spanState}
 
--- the n ticks from tick i on, of T
-abbrev pub ticks : ℕ → ℕ → ℕ → Span
-ticks i n T = record { from = i; to = i + n; ticks = T }
+-- "A ray […] is cut into 1,024 equal ticks": 2^10
+abbrev pub exponent : ℕ
+exponent = 10
 
--- their state, of a tree on a ray
-unfoldable pub spanState : Kernel → ℕ → Ray → List Node → ℕ → ℕ → ℕ → ℕ
-spanState k iso ray ns T i n = stateOf iso (treeBounds k ray (ticks i n T) ns)
+-- "A full cast takes at most 2,047", so "A budget of 2,047 is always enough": of T ticks, 2 T − 1
+abbrev pub enough : ℕ → ℕ
+enough T = 2 * T - 1
 
--- of a file's tree, with 1,024 ticks
-abbrev pub rayState : List ℕ → Ray → ℕ → ℕ → ℕ
-rayState file ray = spanState quartic (iso file) ray (nodes file) 1024
-
--- "A tick's mark is the one these rules give it, handed over or not": its own state, "judged alone"
-unfoldable pub markOf : List ℕ → Ray → ℕ → ℕ
-markOf file ray t = tickState quartic (iso file) ray (nodes file) t 1024
+-- the state of the n ticks from tick i on, of T
+unfoldable pub rayState : Solid → Ray → ℕ → ℕ → ℕ → ℕ
+rayState solid ray T i n = spanState solid ray (ticks i n T)

@@ -3,10 +3,11 @@ use mathlib.Core.Path.{_≡_, ap, subst, _∙_}
 use mathlib.Core.List.{List}
 use Prim.Native.Nat.{ℕ}
 use Rattle.field.specs.declared.Ray.{Ray}
-use Rattle.cast.specs.declared.CastAnswer.{CastAnswer}
-use Rattle.cast.specs.declared.HitAnswer.{HitAnswer}
+use Rattle.halving.specs.declared.CastAnswer.{CastAnswer}
+use Rattle.halving.specs.declared.HitAnswer.{HitAnswer}
 use Rattle.cast.specs.declared.ColumnAnswer.{ColumnAnswer}
-use Rattle.numbers.specs.Numbers.{castNumber, hitNumber, columnNumber}
+use Rattle.halving.specs.Numbers.{castNumber, hitNumber}
+use Rattle.cast.specs.Column.{columnNumber}
 use Rattle.cast.proofs.Calls.{CastPromised, HitPromised, ColumnPromised}
 use Rattle.fenalukki.specs.Host.{HostCast, HostHit, HostColumn}
 

@@ -4,7 +4,7 @@ use Prim.Native.Nat.{ℕ, _*_, _≤_, _<_}
 use native.Mathlib.Nat.{le-trans, le-of-eq, mul-pos, mul-le-mul-right, div-mul-le-self}
 use Rattle.exact.proofs.Order.{pos-reflect}
 use Rattle.exact.proofs.Rounding.{le-ceil, floor-mono, ceil-mono}
-use Rattle.part.specs.declared.Node.{Node}
+use Rattle.record.specs.declared.Node.{Node}
 use Rattle.field.specs.declared.Ray.{Ray}
 use Rattle.field.specs.declared.Span.{Span}
 use Rattle.field.specs.Ray.{radius, Place}
@@ -31,7 +31,8 @@ module _ {ray : Ray} {p : Node} {s : Span} (hr : 1 ≤ radius p) (f : Extremes r
       le-trans
       (mul-le-mul-right (den x)
       (le-trans (le-of-eq (f .low-is))
-      (floor-mono 65536 (num (f .least)) (den (f .least)) (num x) (den x) (den-pos (f .least)) (den-pos x) (pos-reflect (f .is-least x .cross)))))
+      (floor-mono 65536 (num (f .least)) (den (f .least)) (num x) (den x) (den-pos (f .least)) (den-pos x)
+      (pos-reflect (f .is-least x .cross)))))
       (div-mul-le-self (65536 * num x) (den x))
 
   pub high-holds : (x : Place s) → 65536 * num x ≤ qhi (raySquare ray) (prepare ray p) s * den x
@@ -40,5 +41,6 @@ module _ {ray : Ray} {p : Node} {s : Span} (hr : 1 ≤ radius p) (f : Extremes r
       le-trans (le-ceil (65536 * num x) (den x) (den-pos x))
       (mul-le-mul-right (den x)
       (le-trans
-      (ceil-mono 65536 (num x) (den x) (num (f .greatest)) (den (f .greatest)) (den-pos x) (den-pos (f .greatest)) (pos-reflect (f .is-greatest x .cross)))
+      (ceil-mono 65536 (num x) (den x) (num (f .greatest)) (den (f .greatest)) (den-pos x) (den-pos (f .greatest))
+      (pos-reflect (f .is-greatest x .cross)))
       (le-of-eq (sym (f .high-is)))))

@@ -9,13 +9,12 @@ use Rattle.exact.proofs.Tests.{positive-small}
 use Rattle.exact.proofs.Absolute.{pos-natAbs-nn}
 use Rattle.exact.proofs.Vector.{nn-square3}
 use Rattle.exact.proofs.Distance.{dist-squares, foot-squares}
-use Rattle.part.specs.declared.Node.{Node}
-use Rattle.part.specs.Accepted.{PointRanges}
+use Rattle.record.specs.declared.Node.{Node}
+use Rattle.record.specs.Ranges.{PointRanges}
 use Rattle.field.specs.declared.Ray.{Ray}
 use Rattle.field.specs.declared.Offset.{Offset}
 use Rattle.field.specs.Ray.{inner, radius, toStart, direction, fromCentre, squaredDistance}
-use Rattle.field.specs.Bounds.{raySquare, prepare, distanceAt, footDistance}
-use Rattle.field.specs.Ranges.{NonNegative}
+use Rattle.field.specs.Bounds.{raySquare, prepare, NonNegative, distanceAt, footDistance}
 
 inner-nn : (u : Offset) → pos 0 ≤ℤ inner u u
 inner-nn u = nn-square3 (u .x) (u .y) (u .z)

@@ -10,7 +10,7 @@ use Rattle.exact.specs.Fraction.{_≼_}
 use Rattle.exact.proofs.Order.{pos-mono}
 use Rattle.exact.proofs.Absolute.{pos-natAbs-nn}
 use Rattle.exact.proofs.Naturals.{clamp}
-use Rattle.part.specs.declared.Node.{Node}
+use Rattle.record.specs.declared.Node.{Node}
 use Rattle.field.specs.declared.Ray.{Ray}
 use Rattle.field.specs.declared.Span.{Span}
 use Rattle.field.specs.Ray.{radius, squaredDistance, Ordered, Place}
@@ -52,7 +52,8 @@ module _ (ray : Ray) (p : Node) (s : Span) (hr : 1 ≤ radius p) (o : Ordered s)
   u-le : (x y : Place s) → D (x .n) (x .m) * sq y ≤ D (y .n) (y .m) * sq x → uAt ray p y ≼ uAt ray p x
   unfolding u
   u-le x y h =
-      record { cross = pos-mono (scale (uNum ray p (y .n) (y .m)) (sq x) (uNum ray p (x .n) (x .m)) (sq y) (clamp R (sq y) (sq x) (D (x .n) (x .m)) (D (y .n) (y .m)) h)) }
+      let k = clamp R (sq y) (sq x) (D (x .n) (x .m)) (D (y .n) (y .m)) h in
+      record { cross = pos-mono (scale (uNum ray p (y .n) (y .m)) (sq x) (uNum ray p (x .n) (x .m)) (sq y) k) }
     where
       scale : (a t b t′ : ℕ) → a * t ≤ b * t′ → a * (R * t) ≤ b * (R * t′)
       scale a t b t′ h = rw (mul-left-comm a R t, mul-left-comm b R t′) (mul-le-mul-left R h)
@@ -63,12 +64,14 @@ module _ (ray : Ray) (p : Node) (s : Span) (hr : 1 ≤ radius p) (o : Ordered s)
       ap₂ (λ (x y : ℕ). lowQ (R * (s .ticks * s .ticks)) (max x y)) (distance-is ray p (s .from) (s .ticks)) (distance-is ray p (s .to) (s .ticks))
 
   high-q : qhi (raySquare ray) (prepare ray p) s
-      ≡ cond (footInside (pos A) (prepare ray p) s) (highQ (R * A) N) (highQ (R * (s .ticks * s .ticks)) (min (D (s .from) (s .ticks)) (D (s .to) (s .ticks))))
+      ≡ cond (footInside (pos A) (prepare ray p) s) (highQ (R * A) N)
+      (highQ (R * (s .ticks * s .ticks)) (min (D (s .from) (s .ticks)) (D (s .to) (s .ticks))))
   unfolding qhi prepare
   high-q =
       ap₂ (λ (x y : ℕ). cond (footInside (raySquare ray) (prepare ray p) s) (highQ (R * A) N) (highQ (R * (s .ticks * s .ticks)) (min x y)))
       (distance-is ray p (s .from) (s .ticks)) (distance-is ray p (s .to) (s .ticks))
-      ∙ ap (λ (z : ℤ). cond (footInside z (prepare ray p) s) (highQ (R * A) N) (highQ (R * (s .ticks * s .ticks)) (min (D (s .from) (s .ticks)) (D (s .to) (s .ticks))))) (sym A-is)
+      ∙ ap (λ (z : ℤ). cond (footInside z (prepare ray p) s) (highQ (R * A) N)
+      (highQ (R * (s .ticks * s .ticks)) (min (D (s .from) (s .ticks)) (D (s .to) (s .ticks))))) (sym A-is)
 
   pub extremes : Extremes ray p s
   extremes = record {

@@ -11,7 +11,7 @@ use Rattle.exact.proofs.Order.{nn-add, nn-mul, nn-pos, sub-nn, pos-mono, pos-re
 use Rattle.exact.proofs.Certificates.{_≦_by_, le}
 use Rattle.exact.proofs.Naturals.{≤-total, pow-two}
 use Rattle.field.specs.Lawful.{Lawful}
-use Rattle.field.specs.Kernel.{quartic}
+use Rattle.field.specs.Kernel.{fixedOne, quartic}
 
 -- h² − l² ≤ 2 · 65536 · (h − l)
 squares : (l h : ℕ) → h ≤ 65536 → h * h ≤ l * l + 131072 * (h - l)
@@ -28,25 +28,27 @@ squares l h b = elim (≤-total h l) [
 pub quartic-lawful : Lawful quartic
 unfolding plus
 quartic-lawful = record {
-  down = λ q. le-of-eq (ap (λ (x : ℕ). x * 4294967296) (sym (pow-two q)));
-  up = λ q. le-of-eq (ap (λ (x : ℕ). x * 4294967296) (pow-two q));
+  down = λ q. le-of-eq (ap (λ (x : ℕ). x * fixedOne) (sym (pow-two q)));
+  up = λ q. le-of-eq (ap (λ (x : ℕ). x * fixedOne) (pow-two q));
   small = λ h. (mul-le-mul h h, mul-le-mul h h);
   low-rises = λ h. mul-le-mul h h;
   high-rises = λ h. mul-le-mul h h;
   slack-proper = omega arith;
   slack-nn = nn-pos 1;
-  narrow = λ qlo qhi S t a b h. record { cross = pos-mono (last S t (qhi - qlo) (qhi * qhi - qlo * qlo) h (less (qlo * qlo) (qhi * qhi) (qhi - qlo) (squares qlo qhi b))) };
+  narrow = λ qlo qhi S t a b h.
+      let k = monus-le (qlo * qlo) (qhi * qhi) (qhi - qlo) (squares qlo qhi b) in
+      record { cross = pos-mono (last S t (qhi - qlo) (qhi * qhi - qlo * qlo) h k) };
 }
   where
-    less : (x y g : ℕ) → y ≤ x + 131072 * g → y - x ≤ 131072 * g
-    less x y g h = omega arith
+    monus-le : (x y g : ℕ) → y ≤ x + 131072 * g → y - x ≤ 131072 * g
+    monus-le x y g h = omega arith
 
     spread : (v g t : ℕ) → v ≤ 131072 * g → v * t ≤ 131072 * (g * t)
     spread v g t h =
         subst (λ (x : ℕ). v * t ≤ x) (pos-inj (ring 2 (λ g t. # 131072 ⊗ g ⊗ t ≔ # 131072 ⊗ (g ⊗ t)) tt (pos g) (pos t))) (mul-le-mul-right t h)
 
-    last : (S t g v : ℕ) → g * t ≤ 131072 * S + 2 * t → v ≤ 131072 * g → v * (t * 16384) ≤ (4 * S * 16384 + 1 * t) * 4294967296
+    last : (S t g v : ℕ) → g * t ≤ 131072 * S + 2 * t → v ≤ 131072 * g → v * (t * 16384) ≤ (4 * S * 16384 + 1 * t) * fixedOne
     last S t g v h k =
         let f : v * t ≤ 131072 * (g * t) = spread v g t k in
         let e : v * (t * 16384) ≡ v * t * 16384 = pos-inj (ring 2 (λ v t. v ⊗ (t ⊗ # 16384) ≔ v ⊗ t ⊗ # 16384) tt (pos v) (pos t)) in
-        subst (λ (x : ℕ). x ≤ (4 * S * 16384 + 1 * t) * 4294967296) (sym e) (omega arith)
+        subst (λ (x : ℕ). x ≤ (4 * S * 16384 + 1 * t) * fixedOne) (sym e) (omega arith)

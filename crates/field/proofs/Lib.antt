@@ -14,9 +14,5 @@ pub mod Tolerance
 pub mod Sum
 pub mod Demanded
 pub mod Marks
-pub mod Offsets
-pub mod Lists
 pub mod Quotients
-pub mod Stack
-pub mod Loading
-pub mod Places
+pub mod Solids

@@ -105,7 +105,8 @@ module _ (p : Prepared) (A N : ℕ) (D : ℕ → ℕ → ℕ) (D-is : (n d : ℕ
   ends-max : (x : Place s) → D (x .n) (x .m) * (T * T) ≤ max (D i T) (D j T) * sq x
   ends-max x =
       rw (mul-comm (D (x .n) (x .m)) (T * T), mul-comm (max (D i T) (D j T)) (sq x))
-      (dist-maxℕ (p .e) m (pos A) i j T (x .n) (x .m) (D i T) (D j T) (D (x .n) (x .m)) (nn-pos A) (D-is i T) (D-is j T) (D-is (x .n) (x .m)) (x .after) (x .before))
+      (dist-maxℕ (p .e) m (pos A) i j T (x .n) (x .m) (D i T) (D j T) (D (x .n) (x .m)) (nn-pos A)
+      (D-is i T) (D-is j T) (D-is (x .n) (x .m)) (x .after) (x .before))
 
   low-at : (t : ℕ) → max (D i T) (D j T) ≡ D t T → (R : ℕ)
       → lowQ (R * (T * T)) (max (D i T) (D j T)) ≡ 65536 * (R * (T * T) - D t T) / (R * (T * T))
@@ -139,7 +140,8 @@ module _ (p : Prepared) (A N : ℕ) (D : ℕ → ℕ → ℕ) (D-is : (n d : ℕ
   ends-min : FootOutside m (pos A) (pos i) (pos j) (pos T) → (x : Place s) → min (D i T) (D j T) * sq x ≤ D (x .n) (x .m) * (T * T)
   ends-min out x =
       rw (mul-comm (min (D i T) (D j T)) (sq x), mul-comm (D (x .n) (x .m)) (T * T))
-      (dist-minℕ (p .e) m (pos A) i j T (x .n) (x .m) (D i T) (D j T) (D (x .n) (x .m)) (nn-pos A) (D-is i T) (D-is j T) (D-is (x .n) (x .m)) (x .after) (x .before) out)
+      (dist-minℕ (p .e) m (pos A) i j T (x .n) (x .m) (D i T) (D j T) (D (x .n) (x .m)) (nn-pos A)
+      (D-is i T) (D-is j T) (D-is (x .n) (x .m)) (x .after) (x .before) out)
 
   abbrev Near : ℕ → ℕ
   Near R = cond (footInside (pos A) p s) (highQ (R * A) N) (highQ (R * (T * T)) (min (D i T) (D j T)))

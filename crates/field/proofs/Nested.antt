@@ -1,7 +1,6 @@
 -- Theorem 2. A span within a span has no looser bounds, for a point (`point-nested`) and for every tree (`tree-nested`); so what decides a span
 -- decides each span in it (`state-nested`) and each of its ticks (`tick-nested`) alike. The two spans may count by different ticks.
 use mathlib.Core.Path.{_≡_, sym}
-use mathlib.Core.List.{List}
 use Prim.Native.Nat.{ℕ, _*_, _≤_, _<_}
 use native.Mathlib.Nat.{le-trans, le-of-eq, mul-le-mul-right, le-of-mul-le-mul-right}
 use native.Mathlib.Omega.{arith}
@@ -9,13 +8,14 @@ use lib.IntN.{pos}
 use Rattle.exact.proofs.Ring.{_⊗_, _≔_, ring}
 use Rattle.exact.proofs.Order.{≤ℤ-trans, ≤ℤ-<ℤ-trans, pos-inj, pos-reflect}
 use Rattle.exact.proofs.Rounding.{floor-mono, ceil-mono}
-use Rattle.part.specs.declared.Node.{Node}
-use Rattle.part.specs.Accepted.{PointRanges, Tree}
+use Rattle.record.specs.declared.Node.{Node}
+use Rattle.record.specs.Ranges.{PointRanges}
 use Rattle.field.specs.declared.Ray.{Ray}
 use Rattle.field.specs.declared.Span.{Span}
 use Rattle.field.specs.Ray.{radius, tick, Ordered, Place, Inside}
 use Rattle.field.specs.Kernel.{Kernel, uDen, uNum, u}
 use Rattle.field.specs.Tree.{items}
+use Rattle.field.specs.Solid.{Solid, Valid}
 use Rattle.field.specs.Bounds.{raySquare, prepare, qlo, qhi, pointBounds, boundingOn, noBounds, treeBounds, Within, Decides}
 use Rattle.field.proofs.Tree.{value-related, tree-items}
 use Rattle.field.proofs.Distances.{radius-pos}
@@ -65,10 +65,12 @@ module _ (ray : Ray) (p : Node) (hr : 1 ≤ radius p) {t s : Span} (ot : Ordered
   low-nested =
       let x = extremes ray p s hr os in
       let y = extremes ray p t hr ot in
+      let a = x .least in
+      let b = y .least in
       le-trans (le-of-eq (x .low-is))
       (le-trans
-      (floor-mono 65536 (uNum ray p (x .least .n) (x .least .m)) (uDen p (x .least .m)) (uNum ray p (y .least .n) (y .least .m)) (uDen p (y .least .m))
-      (den-pos hr x (x .least)) (den-pos hr y (y .least)) (pos-reflect (x .is-least (widen (ot .ticks-low) w (y .least)) .cross)))
+      (floor-mono 65536 (uNum ray p (a .n) (a .m)) (uDen p (a .m)) (uNum ray p (b .n) (b .m)) (uDen p (b .m))
+      (den-pos hr x a) (den-pos hr y b) (pos-reflect (x .is-least (widen (ot .ticks-low) w b) .cross)))
       (le-of-eq (sym (y .low-is))))
 
   high-nested : qhi (raySquare ray) (prepare ray p) t ≤ qhi (raySquare ray) (prepare ray p) s
@@ -76,40 +78,43 @@ module _ (ray : Ray) (p : Node) (hr : 1 ≤ radius p) {t s : Span} (ot : Ordered
   high-nested =
       let x = extremes ray p s hr os in
       let y = extremes ray p t hr ot in
+      let a = x .greatest in
+      let b = y .greatest in
       le-trans (le-of-eq (y .high-is))
       (le-trans
-      (ceil-mono 65536 (uNum ray p (y .greatest .n) (y .greatest .m)) (uDen p (y .greatest .m)) (uNum ray p (x .greatest .n) (x .greatest .m)) (uDen p (x .greatest .m))
-      (den-pos hr y (y .greatest)) (den-pos hr x (x .greatest)) (pos-reflect (x .is-greatest (widen (ot .ticks-low) w (y .greatest)) .cross)))
+      (ceil-mono 65536 (uNum ray p (b .n) (b .m)) (uDen p (b .m)) (uNum ray p (a .n) (a .m)) (uDen p (a .m))
+      (den-pos hr y b) (den-pos hr x a) (pos-reflect (x .is-greatest (widen (ot .ticks-low) w b) .cross)))
       (le-of-eq (sym (x .high-is))))
 
-  pub point-nested : (k : Kernel) → Lawful k → Within (pointBounds k (raySquare ray) t (prepare ray p)) (pointBounds k (raySquare ray) s (prepare ray p))
+  pub point-nested : (k : Kernel) → Lawful k
+      → Within (pointBounds k (raySquare ray) t (prepare ray p)) (pointBounds k (raySquare ray) s (prepare ray p))
   point-nested k law = point-within k law ray p hr s t low-nested high-nested
 
 -- ---- every tree
 
-pub tree-nested : (k : Kernel) → Lawful k → (ray : Ray) (ns : List Node) → Tree ns → {t s : Span} → Ordered t → Ordered s → Inside t s
-    → Within (treeBounds k ray t ns) (treeBounds k ray s ns)
-unfolding treeBounds
-tree-nested k law ray ns tree {t} {s} ot os w =
-    value-related (boundingOn k ray t) (boundingOn k ray s) Within PointRanges
-    (λ p h. point-nested ray p (radius-pos h) ot os w k law) (λ o a b c d. join-within o a b c d) (items ns) noBounds noBounds (tree-items ns tree)
+module _ (solid : Solid) (valid : Valid solid) (ray : Ray) where
+  pub tree-nested : {t s : Span} → Ordered t → Ordered s → Inside t s → Within (treeBounds solid ray t) (treeBounds solid ray s)
+  unfolding treeBounds
+  tree-nested {t} {s} ot os w =
+      value-related (boundingOn solid ray t) (boundingOn solid ray s) Within PointRanges
+      (λ p h. point-nested ray p (radius-pos h) ot os w (solid .kernel) (valid .lawful)) (join-within (solid .iso))
+      (items (solid .nodes)) noBounds noBounds (tree-items (solid .nodes) (valid .tree))
 
--- ---- a decided span
+  -- ---- a decided span
 
-pub state-nested : (k : Kernel) → Lawful k → (ray : Ray) (ns : List Node) → Tree ns → {t s : Span} → Ordered t → Ordered s → Inside t s → (iso : ℕ)
-    → Decides iso (treeBounds k ray s ns) (treeBounds k ray t ns)
-state-nested k law ray ns tree {t} {s} ot os w iso =
-    let n = tree-nested k law ray ns tree ot os w in
-    let b = treeBounds k ray t ns in
-    let c = treeBounds k ray s ns in
-    record {
-      empty = λ e. empty-state iso b (≤ℤ-<ℤ-trans (n .high) (empty-high iso c e));
-      inside = λ e. inside-state iso b (low-le-high k law ray ns tree ot) (≤ℤ-trans (inside-low iso c e) (n .low));
-    }
+  pub state-nested : {t s : Span} → Ordered t → Ordered s → Inside t s → Decides (solid .iso) (treeBounds solid ray s) (treeBounds solid ray t)
+  state-nested {t} {s} ot os w =
+      let n = tree-nested ot os w in
+      let b = treeBounds solid ray t in
+      let c = treeBounds solid ray s in
+      record {
+        empty = λ e. empty-state (solid .iso) b (≤ℤ-<ℤ-trans (n .high) (empty-high (solid .iso) c e));
+        inside = λ e. inside-state (solid .iso) b (low-le-high solid valid ray ot) (≤ℤ-trans (inside-low (solid .iso) c e) (n .low));
+      }
 
--- so does each of its ticks
-pub tick-nested : (k : Kernel) → Lawful k → (ray : Ray) (ns : List Node) → Tree ns → {s : Span} → Ordered s → (iso t : ℕ) → s .from ≤ t → t < s .to
-    → Decides iso (treeBounds k ray s ns) (treeBounds k ray (tick t (s .ticks)) ns)
-tick-nested k law ray ns tree {s} o iso t h g =
-    state-nested k law ray ns tree (tick-ordered t (o .ticks-low)) o
-    (record { from = mul-le-mul-right (s .ticks) h; to = mul-le-mul-right (s .ticks) (omega arith) }) iso
+  -- so does each of its ticks
+  pub tick-nested : {s : Span} → Ordered s → (t : ℕ) → s .from ≤ t → t < s .to
+      → Decides (solid .iso) (treeBounds solid ray s) (treeBounds solid ray (tick t (s .ticks)))
+  tick-nested {s} o t h g =
+      state-nested (tick-ordered t (o .ticks-low)) o
+      (record { from = mul-le-mul-right (s .ticks) h; to = mul-le-mul-right (s .ticks) (omega arith) })

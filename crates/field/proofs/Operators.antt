@@ -14,34 +14,35 @@ use Rattle.exact.proofs.Absolute.{natAbs-add}
 use Rattle.exact.proofs.Extrema.{max-is, le-max-l, le-max-r, max-mono, natAbs-max}
 use Rattle.exact.proofs.Fractions.{≼-trans, ≼-over, plus-proper, plus-mono, plus-over, plus-up, plus-nn, greater-is}
 use Rattle.field.specs.declared.Bounds.{Bounds}
+use Rattle.field.specs.Kernel.{fixedOne}
 use Rattle.field.specs.Tree.{Operator}
 use Rattle.field.specs.Field.{joinFractions}
-use Rattle.field.specs.Bounds.{joinBounds, units, Encloses, Within, NoWider}
-use Rattle.field.proofs.Points.{unit-pos}
+use Rattle.field.specs.Bounds.{sumBounds, greaterBounds, joinBounds, units, Encloses, Within, NoWider}
+use Rattle.field.proofs.Points.{one-pos}
 
 -- ---- enclosing
 
-sum-encloses : (a b : Bounds) (x y : Fraction) → Encloses a x → Encloses b y → Encloses (joinBounds Operator.sum a b) (plus x y)
-unfolding joinBounds
+sum-encloses : (a b : Bounds) (x y : Fraction) → Encloses a x → Encloses b y → Encloses (sumBounds a b) (plus x y)
 sum-encloses a b x y h k = record {
   proper = plus-proper x y (h .proper) (k .proper);
-  above = ≼-trans (plus-proper (units (a .low)) (units (b .low)) unit-pos unit-pos) (plus-over (a .low) (b .low) 4294967296 .0) (plus-mono (h .above) (k .above));
-  below = ≼-trans (plus-proper (units (a .high)) (units (b .high)) unit-pos unit-pos) (plus-mono (h .below) (k .below)) (plus-over (a .high) (b .high) 4294967296 .1);
+  above = ≼-trans (plus-proper (units (a .low)) (units (b .low)) one-pos one-pos)
+      (plus-over (a .low) (b .low) fixedOne .0) (plus-mono (h .above) (k .above));
+  below = ≼-trans (plus-proper (units (a .high)) (units (b .high)) one-pos one-pos)
+      (plus-mono (h .below) (k .below)) (plus-over (a .high) (b .high) fixedOne .1);
 }
 
 -- the greater is the one or the other, and no less than both
-greater-encloses : (a b : Bounds) (x y : Fraction) → Encloses a x → Encloses b y → Encloses (joinBounds Operator.greater a b) (greater x y)
-unfolding joinBounds
+greater-encloses : (a b : Bounds) (x y : Fraction) → Encloses a x → Encloses b y → Encloses (greaterBounds a b) (greater x y)
 greater-encloses a b x y h k = elim (greater-is x y) [
-  | inl g ↦ subst (Encloses (joinBounds Operator.greater a b)) (sym (g .1)) (record {
+  | inl g ↦ subst (Encloses (greaterBounds a b)) (sym (g .1)) (record {
     proper = k .proper;
     above = low y (≼-trans (h .proper) (h .above) (g .0)) (k .above);
-    below = ≼-trans unit-pos (k .below) (≼-over 4294967296 (le-max-r (a .high) (b .high)));
+    below = ≼-trans one-pos (k .below) (≼-over fixedOne (le-max-r (a .high) (b .high)));
   })
-  | inr g ↦ subst (Encloses (joinBounds Operator.greater a b)) (sym (g .1)) (record {
+  | inr g ↦ subst (Encloses (greaterBounds a b)) (sym (g .1)) (record {
     proper = h .proper;
     above = low x (h .above) (≼-trans (k .proper) (k .above) (g .0));
-    below = ≼-trans unit-pos (h .below) (≼-over 4294967296 (le-max-l (a .high) (b .high)));
+    below = ≼-trans one-pos (h .below) (≼-over fixedOne (le-max-l (a .high) (b .high)));
   })
 ]
   where
@@ -51,17 +52,18 @@ greater-encloses a b x y h k = elim (greater-is x y) [
       | inr e ↦ subst (λ (n : ℤ). units n ≼ z) (sym (e .1)) p
     ]
 
-pub join-encloses : (o : Operator) (a b : Bounds) (x y : Fraction) → Encloses a x → Encloses b y → Encloses (joinBounds o a b) (joinFractions o x y)
+pub join-encloses : (iso : ℕ) (o : Operator) (a b : Bounds) (x y : Fraction) → Encloses a x → Encloses b y
+    → Encloses (joinBounds iso o a b) (joinFractions iso o x y)
 unfolding joinBounds joinFractions
-join-encloses Operator.sum a b x y h k = sum-encloses a b x y h k
-join-encloses Operator.greater a b x y h k = greater-encloses a b x y h k
+join-encloses iso Operator.sum a b x y h k = sum-encloses a b x y h k
+join-encloses iso Operator.greater a b x y h k = greater-encloses a b x y h k
 
 -- ---- no looser
 
-pub join-within : (o : Operator) (a b c d : Bounds) → Within a c → Within b d → Within (joinBounds o a b) (joinBounds o c d)
+pub join-within : (iso : ℕ) (o : Operator) (a b c d : Bounds) → Within a c → Within b d → Within (joinBounds iso o a b) (joinBounds iso o c d)
 unfolding joinBounds
-join-within Operator.sum a b c d h k = record { low = add-mono (h .low) (k .low); high = add-mono (h .high) (k .high) }
-join-within Operator.greater a b c d h k = record { low = max-mono (h .low) (k .low); high = max-mono (h .high) (k .high) }
+join-within iso Operator.sum a b c d h k = record { low = add-mono (h .low) (k .low); high = add-mono (h .high) (k .high) }
+join-within iso Operator.greater a b c d h k = record { low = max-mono (h .low) (k .low); high = max-mono (h .high) (k .high) }
 
 -- ---- no wider
 
@@ -81,29 +83,32 @@ module _ (a b c : Bounds) (x y : Fraction) (h : Narrow a x) (k : Narrow b y) whe
     nonneg = plus-nn x y (h .nonneg) (k .nonneg);
   }
 
-  both : width c ≡ width a +ℤ width b → Narrow c (plus x y)
-  both e =
+  together : width c ≡ width a +ℤ width b → Narrow c (plus x y)
+  together e =
       narrow (subst (λ (z : ℤ). units z ≼ plus x y) (sym e)
-      (≼-trans (plus-proper (units (width a)) (units (width b)) unit-pos unit-pos) (plus-over (width a) (width b) 4294967296 .0) (plus-mono (h .no-wider .width) (k .no-wider .width))))
+      (≼-trans (plus-proper (units (width a)) (units (width b)) one-pos one-pos)
+      (plus-over (width a) (width b) fixedOne .0) (plus-mono (h .no-wider .width) (k .no-wider .width))))
 
   first : width c ≤ℤ width a → Narrow c (plus x y)
-  first l = narrow (≼-trans (h .no-wider .proper) (≼-trans unit-pos (≼-over 4294967296 l) (h .no-wider .width)) (plus-up x y (h .nonneg) (k .nonneg) .0))
+  first l =
+      narrow (≼-trans (h .no-wider .proper) (≼-trans one-pos (≼-over fixedOne l) (h .no-wider .width)) (plus-up x y (h .nonneg) (k .nonneg) .0))
 
   second : width c ≤ℤ width b → Narrow c (plus x y)
-  second l = narrow (≼-trans (k .no-wider .proper) (≼-trans unit-pos (≼-over 4294967296 l) (k .no-wider .width)) (plus-up x y (h .nonneg) (k .nonneg) .1))
+  second l =
+      narrow (≼-trans (k .no-wider .proper) (≼-trans one-pos (≼-over fixedOne l) (k .no-wider .width)) (plus-up x y (h .nonneg) (k .nonneg) .1))
 
-greater-narrow : (a b : Bounds) (x y : Fraction) → Narrow a x → Narrow b y → Narrow (joinBounds Operator.greater a b) (plus x y)
-unfolding joinBounds
+greater-narrow : (a b : Bounds) (x y : Fraction) → Narrow a x → Narrow b y → Narrow (greaterBounds a b) (plus x y)
 greater-narrow a b x y h k = elim (max-is (a .high) (b .high)) [
-  | inl e ↦ second a b (joinBounds Operator.greater a b) x y h k (sub-mono (≤ℤ-of-eq (e .1)) (le-max-r (a .low) (b .low)))
-  | inr e ↦ first a b (joinBounds Operator.greater a b) x y h k (sub-mono (≤ℤ-of-eq (e .1)) (le-max-l (a .low) (b .low)))
+  | inl e ↦ second a b (greaterBounds a b) x y h k (sub-mono (≤ℤ-of-eq (e .1)) (le-max-r (a .low) (b .low)))
+  | inr e ↦ first a b (greaterBounds a b) x y h k (sub-mono (≤ℤ-of-eq (e .1)) (le-max-l (a .low) (b .low)))
 ]
 
-pub join-narrow : (o : Operator) (a b : Bounds) (x y : Fraction) → Narrow a x → Narrow b y → Narrow (joinBounds o a b) (plus x y)
+pub join-narrow : (iso : ℕ) (o : Operator) (a b : Bounds) (x y : Fraction) → Narrow a x → Narrow b y → Narrow (joinBounds iso o a b) (plus x y)
 unfolding joinBounds
-join-narrow Operator.sum a b x y h k =
-    both a b (joinBounds Operator.sum a b) x y h k (ring 4 (λ l h m i. h ⊕ i ⊖ (l ⊕ m) ≔ h ⊖ l ⊕ (i ⊖ m)) tt (a .low) (a .high) (b .low) (b .high))
-join-narrow Operator.greater a b x y h k = greater-narrow a b x y h k
+join-narrow iso Operator.sum a b x y h k =
+    together a b (sumBounds a b) x y h k
+    (ring 4 (λ l h m i. h ⊕ i ⊖ (l ⊕ m) ≔ h ⊖ l ⊕ (i ⊖ m)) tt (a .low) (a .high) (b .low) (b .high))
+join-narrow iso Operator.greater a b x y h k = greater-narrow a b x y h k
 
 -- ---- no larger
 
@@ -111,7 +116,7 @@ join-narrow Operator.greater a b x y h k = greater-narrow a b x y h k
 abbrev pub size : Bounds → ℕ
 size b = natAbs (b .low) + natAbs (b .high)
 
-pub join-size : (o : Operator) (x y : Bounds) → size (joinBounds o x y) ≤ size x + size y
+pub join-size : (iso : ℕ) (o : Operator) (x y : Bounds) → size (joinBounds iso o x y) ≤ size x + size y
 unfolding joinBounds
-join-size Operator.sum x y = omega (arith, natAbs-add (x .low) (y .low), natAbs-add (x .high) (y .high))
-join-size Operator.greater x y = omega (arith, natAbs-max (x .low) (y .low), natAbs-max (x .high) (y .high))
+join-size iso Operator.sum x y = omega (arith, natAbs-add (x .low) (y .low), natAbs-add (x .high) (y .high))
+join-size iso Operator.greater x y = omega (arith, natAbs-max (x .low) (y .low), natAbs-max (x .high) (y .high))

@@ -9,32 +9,33 @@ use lib.IntN.{ℤ, pos, natAbs, _-ℤ_, _*ℤ_}
 use lib.Signed.{ltZ, _≤ℤ_}
 use Rattle.exact.specs.Fraction.{Fraction, _over_, Proper, _≼_, times}
 use Rattle.exact.proofs.Ring.{_⊕_, _⊖_, ⊝_, _⊗_, _≔_, ring}
-use Rattle.exact.proofs.Order.{nn-pos, nn-mul, sub-nn, <ℤ-le, ≤ℤ-trans, ≤ℤ-of-eq, mul-mono-l, mul-anti-l, mul-cancel-le, pos-mono, pos-mono-lt, pos-reflect, le-pos-monus}
+use Rattle.exact.proofs.Order.{nn-pos, nn-mul, sub-nn, <ℤ-le, ≤ℤ-trans, ≤ℤ-of-eq, mul-mono-l, mul-anti-l, mul-cancel-le}
+use Rattle.exact.proofs.Order.{pos-mono, pos-mono-lt, pos-reflect, le-pos-monus}
 use Rattle.exact.proofs.Absolute.{pos-natAbs-nn, pos-natAbs-neg}
 use Rattle.exact.proofs.Tests.{ltZ-true, ltZ-false}
 use Rattle.exact.proofs.Certificates.{_≦_by_, le, nn}
 use Rattle.exact.proofs.Naturals.{mul-pow}
 use Rattle.exact.proofs.Fractions.{≼-trans, ≼-over, plus-proper, plus-nn}
-use Rattle.part.specs.declared.Node.{Node}
+use Rattle.record.specs.declared.Node.{Node}
 use Rattle.field.specs.declared.Ray.{Ray}
 use Rattle.field.specs.declared.Span.{Span}
 use Rattle.field.specs.declared.Bounds.{Bounds}
 use Rattle.field.specs.Ray.{radius, extent, tick, Ordered, Place}
-use Rattle.field.specs.Kernel.{Kernel, uDen, uNum, pointAt}
+use Rattle.field.specs.Kernel.{fixedOne, Kernel, uDen, uNum, pointAt}
 use Rattle.field.specs.Bounds.{raySquare, prepare, qlo, qhi, weighted, pointBounds, Encloses, Within, NoWider}
-use Rattle.field.specs.Tolerance.{pointTolerance}
+use Rattle.field.specs.Tolerance.{demandedOf}
 use Rattle.field.specs.Lawful.{Lawful}
 use Rattle.field.proofs.Extremes.{extremes}
 use Rattle.field.proofs.Between.{uDen-pos, low-holds, high-holds}
 use Rattle.field.proofs.Quotients.{qlo-le, qhi-le}
 use Rattle.field.proofs.Width.{tick-width}
 
-pub unit-pos : 1 ≤ 4294967296
-unit-pos = omega arith
+pub one-pos : 1 ≤ fixedOne
+one-pos = omega arith
 
 -- ---- a weight times two sizes
 
-weighted-encloses : (w : ℤ) (a b x y : ℕ) → 1 ≤ y → a * y ≤ x * 4294967296 → x * 4294967296 ≤ b * y → Encloses (weighted w a b) (times w (pos x over y))
+weighted-encloses : (w : ℤ) (a b x y : ℕ) → 1 ≤ y → a * y ≤ x * fixedOne → x * fixedOne ≤ b * y → Encloses (weighted w a b) (times w (pos x over y))
 unfolding weighted
 weighted-encloses w a b x y p h k = go (ltZ w (pos 0)) refl
   where
@@ -47,13 +48,13 @@ weighted-encloses w a b x y p h k = go (ltZ w (pos 0)) refl
     go : (c : Bool) → ltZ w (pos 0) ≡ c → Encloses (weighted w a b) (times w (pos x over y))
     go true e = let n = <ℤ-le (ltZ-true w (pos 0) e) in rw e (record {
       proper = p;
-      above = record { cross = cross b y x 4294967296 (mul-anti-l n (pos-mono k)) };
-      below = record { cross = cross x 4294967296 a y (mul-anti-l n (pos-mono h)) };
+      above = record { cross = cross b y x fixedOne (mul-anti-l n (pos-mono k)) };
+      below = record { cross = cross x fixedOne a y (mul-anti-l n (pos-mono h)) };
     })
     go false e = let n = ltZ-false w (pos 0) e in rw e (record {
       proper = p;
-      above = record { cross = cross a y x 4294967296 (mul-mono-l n (pos-mono h)) };
-      below = record { cross = cross x 4294967296 b y (mul-mono-l n (pos-mono k)) };
+      above = record { cross = cross a y x fixedOne (mul-mono-l n (pos-mono h)) };
+      below = record { cross = cross x fixedOne b y (mul-mono-l n (pos-mono k)) };
     })
 
 weighted-within : (w : ℤ) {x y x′ y′ : ℕ} → x ≤ x′ → y′ ≤ y → Within (weighted w x′ y′) (weighted w x y)
@@ -91,21 +92,21 @@ module _ (k : Kernel) (law : Lawful k) (q R d : ℕ) where
   powers : (a b c e n : ℕ) → a * b ≤ c * e → a ^ n * b ^ n ≤ c ^ n * e ^ n
   powers a b c e n h = subst (λ (x : ℕ). x ≤ c ^ n * e ^ n) (mul-pow a b n) (subst (λ (x : ℕ). (a * b) ^ n ≤ x) (mul-pow c e n) (pow-le-pow-left h n))
 
-  low-size : q * R ≤ 65536 * d → k .low q * R ^ k .power ≤ d ^ k .power * 4294967296
+  low-size : q * R ≤ 65536 * d → k .low q * R ^ k .power ≤ d ^ k .power * fixedOne
   low-size h =
       let h₁ = pos-mono (powers q R 65536 d (k .power) h) in
       let h₂ = pos-mono (law .down q) in
       pos-reflect (mul-cancel-le (pos-mono-lt c-pos)
       (le 6 (λ a c q s R d. a ⊗ R ⊗ c ≦ d ⊗ s ⊗ c by R ⊗ (q ⊗ s ⊖ a ⊗ c) ⊕ s ⊗ (c ⊗ d ⊖ q ⊗ R)) tt
-      (pos (k .low q)) (pos (65536 ^ k .power)) (pos (q ^ k .power)) (pos 4294967296) (pos (R ^ k .power)) (pos (d ^ k .power)) (search nn depth 8)))
+      (pos (k .low q)) (pos (65536 ^ k .power)) (pos (q ^ k .power)) (pos fixedOne) (pos (R ^ k .power)) (pos (d ^ k .power)) (search nn depth 8)))
 
-  high-size : 65536 * d ≤ q * R → d ^ k .power * 4294967296 ≤ k .high q * R ^ k .power
+  high-size : 65536 * d ≤ q * R → d ^ k .power * fixedOne ≤ k .high q * R ^ k .power
   high-size h =
       let h₁ = pos-mono (powers 65536 d q R (k .power) h) in
       let h₂ = pos-mono (law .up q) in
       pos-reflect (mul-cancel-le (pos-mono-lt c-pos)
       (le 6 (λ a c q s R d. d ⊗ s ⊗ c ≦ a ⊗ R ⊗ c by R ⊗ (a ⊗ c ⊖ q ⊗ s) ⊕ s ⊗ (q ⊗ R ⊖ c ⊗ d)) tt
-      (pos (k .high q)) (pos (65536 ^ k .power)) (pos (q ^ k .power)) (pos 4294967296) (pos (R ^ k .power)) (pos (d ^ k .power)) (search nn depth 8)))
+      (pos (k .high q)) (pos (65536 ^ k .power)) (pos (q ^ k .power)) (pos fixedOne) (pos (R ^ k .power)) (pos (d ^ k .power)) (search nn depth 8)))
 
 -- ---- the point
 
@@ -129,17 +130,18 @@ module _ (k : Kernel) (law : Lawful k) (ray : Ray) (p : Node) (hr : 1 ≤ radius
   unfolding pointBounds prepare
   point-within s s′ h g = weighted-within (p .weight) (law .low-rises h) (law .high-rises g)
 
-  pub tolerance-proper : {T : ℕ} → 1 ≤ T → Proper (pointTolerance k ray T p)
-  unfolding pointTolerance
-  tolerance-proper {T} hT = plus-proper (pos (k .slope * extent ray) over (T * radius p)) (k .slack) (mul-pos hT hr) (law .slack-proper)
+  pub demanded-proper : {T : ℕ} → 1 ≤ T → Proper (demandedOf k ray T p)
+  unfolding demandedOf
+  demanded-proper {T} hT = plus-proper (pos (k .slope * extent ray) over (T * radius p)) (k .slack) (mul-pos hT hr) (law .slack-proper)
 
-  pub tolerance-nn : (T : ℕ) → pos 0 ≤ℤ pointTolerance k ray T p .num
-  unfolding pointTolerance
-  tolerance-nn T =
-      nn-mul (nn-pos (natAbs (p .weight))) (plus-nn (pos (k .slope * extent ray) over (T * radius p)) (k .slack) (nn-pos (k .slope * extent ray)) (law .slack-nn))
+  pub demanded-nn : (T : ℕ) → pos 0 ≤ℤ demandedOf k ray T p .num
+  unfolding demandedOf
+  demanded-nn T =
+      nn-mul (nn-pos (natAbs (p .weight)))
+      (plus-nn (pos (k .slope * extent ray) over (T * radius p)) (k .slack) (nn-pos (k .slope * extent ray)) (law .slack-nn))
 
-  pub point-narrow : (t : ℕ) {T : ℕ} → 1 ≤ T → NoWider (on (tick t T)) (pointTolerance k ray T p)
-  unfolding pointBounds pointTolerance prepare
+  pub point-narrow : (t : ℕ) {T : ℕ} → 1 ≤ T → NoWider (on (tick t T)) (demandedOf k ray T p)
+  unfolding pointBounds demandedOf prepare
   point-narrow t {T} hT =
       let l : ℕ = qlo (raySquare ray) (prepare ray p) (tick t T) in
       let h : ℕ = qhi (raySquare ray) (prepare ray p) (tick t T) in
@@ -147,8 +149,8 @@ module _ (k : Kernel) (law : Lawful k) (ray : Ray) (p : Node) (hr : 1 ≤ radius
       let h-le = qhi-le (raySquare ray) (prepare ray p) (tick t T) (mul-pos hr hr) hT in
       let n = law .narrow l h (extent ray) (T * radius p) l-le h-le (tick-width ray p t T hr hT) in
       record {
-        proper = tolerance-proper hT;
-        width = ≼-trans unit-pos (≼-over 4294967296 (weighted-width (p .weight) (k .low l) (k .high h))) (times-mono (natAbs (p .weight)) n);
+        proper = demanded-proper hT;
+        width = ≼-trans one-pos (≼-over fixedOne (weighted-width (p .weight) (k .low l) (k .high h))) (times-mono (natAbs (p .weight)) n);
       }
     where
       times-mono : (v : ℕ) {x y : Fraction} → x ≼ y → times (pos v) x ≼ times (pos v) y

@@ -1,26 +1,20 @@
 -- The two quotients q of a point over a span: what is asked of their divisors, and that each is at most 65536.
--- So the point's bounds are at most 2⁴⁴ in size: `point-small`.
-use mathlib.Core.Path.{_≡_, refl}
+use mathlib.Core.Path.{_≡_}
 use mathlib.Core.Logic.{inl, inr}
-use mathlib.Core.Bool.{Bool, true, false}
+use mathlib.Core.Bool.{true}
 use Prim.Native.Nat.{ℕ, zero, suc, _*_, _-_, _^_, _≤_, _<_, min}
-use native.Mathlib.Nat.{le-trans, le-of-eq, mul-le-mul, mul-pos, div-le-of-le-mul, sub-eq-zero-of-le, zero-div, mul-zero}
+use native.Mathlib.Nat.{le-trans, mul-le-mul, mul-pos, div-le-of-le-mul, sub-eq-zero-of-le, zero-div, mul-zero}
 use native.Mathlib.Omega.{arith}
 use lib.Dec.{lit≤}
 use lib.IntN.{ℤ, pos, negsuc, natAbs, negℤ, _*ℤ_}
 use lib.Signed.{ltZ, _<ℤ_, clashℤ}
-use Rattle.exact.specs.Range.{Small}
 use Rattle.exact.proofs.Ring.{_⊗_, #, _≔_, ring}
 use Rattle.exact.proofs.Order.{≤ℤ-of-eq, <ℤ-trans}
-use Rattle.exact.proofs.Absolute.{natAbs-mul}
-use Rattle.exact.proofs.Tests.{both-true, cond-is, ltZ-true, positive-small}
+use Rattle.exact.proofs.Tests.{both-true, cond-is, ltZ-true}
 use Rattle.exact.proofs.Rounding.{ceil-least}
 use Rattle.field.specs.declared.Prepared.{Prepared}
 use Rattle.field.specs.declared.Span.{Span}
-use Rattle.field.specs.Kernel.{Kernel}
-use Rattle.field.specs.Bounds.{distanceAt, footInside, footDistance, lowQ, highQ, scaledSquare, qlo, qhi, weighted, pointBounds}
-use Rattle.field.specs.Lawful.{Lawful}
-use Rattle.field.specs.Ranges.{PreparedRanges, SpanRanges, SmallBounds}
+use Rattle.field.specs.Bounds.{distanceAt, footInside, footDistance, lowQ, highQ, scaledSquare, qlo, qhi}
 
 -- ---- the divisors r² k, where k is the square of the ticks or a
 
@@ -75,22 +69,3 @@ qhi-le a p s square ticks =
       | inl e ↦ rw (e .1) (high-q-le _ _ (mul-pos square (foot-positive a p s (e .0))))
       | inr e ↦ rw (e .1) (high-q-le _ _ (mul-pos square (mul-pos ticks ticks)))
     ]
-
--- ---- the bounds
-
-weighted-small : {w : ℤ} {x y : ℕ} → Small 4096 w → x ≤ 2 ^ 32 → y ≤ 2 ^ 32 → SmallBounds (2 ^ 44) (weighted w x y)
-unfolding weighted
-weighted-small {w} {x} {y} h hx hy = go (ltZ w (pos 0)) refl
-  where
-    end : {u : ℕ} → u ≤ 2 ^ 32 → Small (2 ^ 44) (w *ℤ pos u)
-    end {u} k = record { abs = le-trans (le-of-eq (natAbs-mul w (pos u))) (mul-le-mul (h .abs) k) }
-
-    go : (c : Bool) → ltZ w (pos 0) ≡ c → SmallBounds (2 ^ 44) (weighted w x y)
-    go true e = rw e (record { low = end hy; high = end hx })
-    go false e = rw e (record { low = end hx; high = end hy })
-
-pub point-small : (k : Kernel) → Lawful k → {a : ℤ} {p : Prepared} {s : Span} → PreparedRanges a p → SpanRanges s → SmallBounds (2 ^ 44) (pointBounds k a s p)
-unfolding pointBounds
-point-small k law {a} {p} {s} r h =
-    weighted-small (r .weight-small) (law .small (qlo-le a p s) .0)
-    (law .small (qhi-le a p s (positive-small (r .square-low) (r .square-high) .0) (h .ticks-low)) .1)

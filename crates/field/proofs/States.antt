@@ -14,9 +14,10 @@ use Rattle.exact.proofs.Absolute.{natAbs-is}
 use Rattle.exact.proofs.Certificates.{_≦_by_, le, nn}
 use Rattle.exact.proofs.Tests.{leZ-true, leZ-false, ltZ-true, ltZ-false, le-leZ, lt-ltZ, le-ltZ}
 use Rattle.field.specs.declared.Bounds.{Bounds}
+use Rattle.field.specs.Kernel.{fixedOne}
 use Rattle.field.specs.Bounds.{Encloses, NoWider, level, stateOf}
 use Rattle.field.specs.Marks.{SoundMark}
-use Rattle.field.proofs.Points.{unit-pos}
+use Rattle.field.proofs.Points.{one-pos}
 
 abbrev pick : Bool → Bool → ℕ
 pick below above = cond below 0 (cond above 2 1)
@@ -92,15 +93,15 @@ pub state-sound : (iso : ℕ) (b : Bounds) (x y : Fraction) → Encloses b x →
 state-sound iso b x y e w = record {
   proper = (e .proper, w .proper);
   empty = λ g. record {
-    cross = below (b .low) (b .high) (x .num) (pos (x .den)) (y .num) (pos (y .den)) (pos 4294967296) (pos iso)
+    cross = below (b .low) (b .high) (x .num) (pos (x .den)) (y .num) (pos (y .den)) (pos fixedOne) (pos iso)
         dx dy ds (e .above .cross) (e .below .cross) (empty-high iso b g);
   };
   inside = λ g. record {
-    cross = above (b .low) (b .high) (x .num) (pos (x .den)) (y .num) (pos (y .den)) (pos 4294967296) (pos iso)
+    cross = above (b .low) (b .high) (x .num) (pos (x .den)) (y .num) (pos (y .den)) (pos fixedOne) (pos iso)
         dx dy ds (e .above .cross) (e .below .cross) (inside-low iso b g);
   };
   crossing = λ g. let k = crossing-ends iso b g in record {
-    cross = near (b .low) (b .high) (x .num) (pos (x .den)) (y .num) (pos (y .den)) (pos 4294967296) (pos iso)
+    cross = near (b .low) (b .high) (x .num) (pos (x .den)) (y .num) (pos (y .den)) (pos fixedOne) (pos iso)
         dx dy ds (e .above .cross) (e .below .cross) (<ℤ-le (k .0)) (k .1) (w .width .cross);
   };
 }
@@ -111,5 +112,5 @@ state-sound iso b x y e w = record {
     dy : pos 0 ≤ℤ pos (y .den)
     dy = nn-pos (y .den)
 
-    ds : pos 0 <ℤ pos 4294967296
-    ds = pos-mono-lt unit-pos
+    ds : pos 0 <ℤ pos fixedOne
+    ds = pos-mono-lt one-pos

@@ -1,4 +1,5 @@
--- The fold in which every operator adds is the sum over the tree's points, as demand 3 says it: `tolerance-sum`, `demanded-sum`.
+-- A tree's fold in which every operator adds is the sum over the tree's points: `demanded-fold`. An operator replaces two held values by their sum,
+-- so the held values added up are at every step the points passed, added up.
 use mathlib.Core.Path.{_≡_, sym, _∙_, ap}
 use mathlib.Core.List.{List, [], _∷_}
 use Prim.Native.Nat.{ℕ, _≤_}
@@ -7,13 +8,18 @@ use lib.IntN.{pos}
 use lib.ListN.{length, getD}
 use Rattle.exact.specs.Fraction.{Fraction, _over_, plus}
 use Rattle.exact.proofs.Fractions.{plus-assoc, plus-comm, plus-none}
-use Rattle.part.specs.declared.Node.{Node}
-use Rattle.part.specs.Accepted.{PointRanges, Tree}
+use Rattle.record.specs.declared.Node.{Node}
+use Rattle.record.specs.Ranges.{PointRanges}
+use Rattle.part.specs.Accepted.{Tree}
 use Rattle.field.specs.declared.Ray.{Ray}
-use Rattle.field.specs.Kernel.{Kernel}
-use Rattle.field.specs.Tree.{Item, point, operator, items, joinTop, step, run, treeValue, Postfix}
-use Rattle.field.specs.Tolerance.{pointTolerance, demandedOf, adding, tolerance, demanded, sumOver}
+use Rattle.field.specs.Tree.{Item, point, operator, Algebra, items, joinTop, step, run, treeValue, Postfix}
+use Rattle.field.specs.Solid.{Solid}
+use Rattle.field.specs.Tolerance.{demandedOf, demanded, sumOver}
 use Rattle.field.proofs.Tree.{join-length, run-one, tree-items}
+
+-- every operator adds
+abbrev pub adding : (Node → Fraction) → Algebra Node Fraction
+adding f = record { value = f; join = λ o x y. plus x y }
 
 -- the held values added
 total : List Fraction → Fraction
@@ -27,13 +33,17 @@ joined (b ∷ []) h = absurd (omega arith)
 joined (b ∷ (a ∷ held)) h = ap (λ (x : Fraction). plus x (total held)) (plus-comm a b) ∙ plus-assoc b a (total held)
 
 module _ (f : Node → Fraction) (Q : Node → Type 0) where
-  adds : (is : List (Item Node)) (held : List Fraction) → Postfix Q is (length held) → total (run (adding f) is held) ≡ plus (sumOver f is) (total held)
+  adds : (is : List (Item Node)) (held : List Fraction) → Postfix Q is (length held)
+      → total (run (adding f) is held) ≡ plus (sumOver f is) (total held)
   unfolding Postfix run step sumOver total
   adds [] held h = sym (plus-comm (pos 0 over 1) (total held) ∙ plus-none (total held))
   adds (point p ∷ later) held h =
-      adds later (f p ∷ held) (h .2) ∙ sym (plus-assoc (sumOver f later) (f p) (total held)) ∙ ap (λ (x : Fraction). plus x (total held)) (plus-comm (sumOver f later) (f p))
+      adds later (f p ∷ held) (h .2)
+      ∙ sym (plus-assoc (sumOver f later) (f p) (total held))
+      ∙ ap (λ (x : Fraction). plus x (total held)) (plus-comm (sumOver f later) (f p))
   adds (operator o ∷ later) held h =
-      adds later (joinTop plus held) (rw (join-length plus held (h .0)) (h .1)) ∙ ap (λ (x : Fraction). plus (sumOver f later) x) (joined held (h .0))
+      adds later (joinTop plus held) (rw (join-length plus held (h .0)) (h .1))
+      ∙ ap (λ (x : Fraction). plus (sumOver f later) x) (joined held (h .0))
 
   one-left : (held : List Fraction) (d : Fraction) → length held ≡ 1 → total held ≡ getD held 0 d
   unfolding total
@@ -45,10 +55,8 @@ module _ (f : Node → Fraction) (Q : Node → Type 0) where
   unfolding treeValue total
   fold-adds is d h = sym (one-left (run (adding f) is []) d (run-one (adding f) Q is [] h)) ∙ adds is [] h ∙ plus-none (sumOver f is)
 
-pub tolerance-sum : (k : Kernel) (ray : Ray) (T : ℕ) (ns : List Node) → Tree ns → tolerance k ray T ns ≡ sumOver (pointTolerance k ray T) (items ns)
-unfolding tolerance
-tolerance-sum k ray T ns tree = fold-adds (pointTolerance k ray T) PointRanges (items ns) (pos 0 over 1) (tree-items ns tree)
-
-pub demanded-sum : (ray : Ray) (ns : List Node) → Tree ns → demanded ray ns ≡ sumOver (demandedOf ray) (items ns)
+pub demanded-fold : (solid : Solid) (ray : Ray) (T : ℕ) → Tree (solid .nodes)
+    → demanded solid ray T ≡ treeValue (adding (demandedOf (solid .kernel) ray T)) (pos 0 over 1) (items (solid .nodes))
 unfolding demanded
-demanded-sum ray ns tree = fold-adds (demandedOf ray) PointRanges (items ns) (pos 0 over 1) (tree-items ns tree)
+demanded-fold solid ray T tree =
+    sym (fold-adds (demandedOf (solid .kernel) ray T) PointRanges (items (solid .nodes)) (pos 0 over 1) (tree-items (solid .nodes) tree))

@@ -4,7 +4,7 @@ use mathlib.Core.Path.{_≡_}
 use Prim.Native.Nat.{_*_, _/_}
 use Rattle.exact.specs.Rounding.{ceil}
 use Rattle.exact.specs.Fraction.{Fraction, _≼_}
-use Rattle.part.specs.declared.Node.{Node}
+use Rattle.record.specs.declared.Node.{Node}
 use Rattle.field.specs.declared.Ray.{Ray}
 use Rattle.field.specs.declared.Span.{Span}
 use Rattle.field.specs.Ray.{Place}

@@ -3,9 +3,13 @@
 use Prim.Native.Nat.{ℕ, _*_, _-_, _^_}
 use lib.IntN.{pos}
 use Rattle.exact.specs.Fraction.{Fraction, _over_, times}
-use Rattle.part.specs.declared.Node.{Node}
+use Rattle.record.specs.declared.Node.{Node}
 use Rattle.field.specs.declared.Ray.{Ray}
 use Rattle.field.specs.Ray.{radius, squaredDistance}
+
+-- 1 as bounds have it, "in units of 1/2³²"
+abbrev pub fixedOne : ℕ
+fixedOne = 4294967296
 
 pub record Kernel : Type 0 where
   -- of u

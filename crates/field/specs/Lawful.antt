@@ -3,13 +3,12 @@ use Prim.Native.Nat.{ℕ, _+_, _*_, _-_, _^_, _≤_}
 use lib.IntN.{pos}
 use lib.Signed.{_≤ℤ_}
 use Rattle.exact.specs.Fraction.{_over_, Proper, _≼_, plus}
-use Rattle.field.specs.Kernel.{Kernel}
-use Rattle.field.specs.Bounds.{units}
+use Rattle.field.specs.Kernel.{fixedOne, Kernel}
 
 pub record Lawful (k : Kernel) : Type 0 where
   -- the two sizes are 2³² × (q/65536)^power, rounded down and up
-  pub down : (q : ℕ) → k .low q * 65536 ^ k .power ≤ q ^ k .power * 4294967296
-  pub up : (q : ℕ) → q ^ k .power * 4294967296 ≤ k .high q * 65536 ^ k .power
+  pub down : (q : ℕ) → k .low q * 65536 ^ k .power ≤ q ^ k .power * fixedOne
+  pub up : (q : ℕ) → q ^ k .power * fixedOne ≤ k .high q * 65536 ^ k .power
   -- and at most 2³² where q is at most 65536
   pub small : {q : ℕ} → q ≤ 65536 → (k .low q ≤ 2 ^ 32) × (k .high q ≤ 2 ^ 32)
   -- more q, no smaller a size
@@ -19,4 +18,4 @@ pub record Lawful (k : Kernel) : Type 0 where
   pub slack-proper : Proper (k .slack)
   pub slack-nn : pos 0 ≤ℤ k .slack .num
   pub narrow : (qlo qhi S t : ℕ) → qlo ≤ 65536 → qhi ≤ 65536 → (qhi - qlo) * t ≤ 131072 * S + 2 * t
-      → units (pos (k .high qhi - k .low qlo)) ≼ plus (pos (k .slope * S) over t) (k .slack)
+      → pos (k .high qhi - k .low qlo) over fixedOne ≼ plus (pos (k .slope * S) over t) (k .slack)

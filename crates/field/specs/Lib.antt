@@ -1,13 +1,10 @@
 pub mod Ray
 pub mod Kernel
 pub mod Tree
+pub mod Solid
 pub mod Field
 pub mod Bounds
 pub mod Extremes
 pub mod Lawful
 pub mod Tolerance
 pub mod Marks
-pub mod Ranges
-pub mod Prepared
-pub mod Loading
-pub mod Place

@@ -3,7 +3,7 @@
 use Prim.Native.Nat.{ℕ, _+_, _*_, _≤_}
 use lib.IntN.{ℤ, pos, natAbs, _+ℤ_, _-ℤ_, _*ℤ_}
 use Rattle.exact.specs.Vector.{dot3}
-use Rattle.part.specs.declared.Node.{Node}
+use Rattle.record.specs.declared.Node.{Node}
 use Rattle.field.specs.declared.Position.{Position}
 use Rattle.field.specs.declared.Offset.{Offset}
 use Rattle.field.specs.declared.Ray.{Ray}
@@ -62,6 +62,10 @@ squaredDistance ray p n m = natAbs (inner (fromCentre ray p n m) (fromCentre ray
 -- "Tick t is the closed stretch from t/1024 to (t+1)/1024 of the way", of T ticks
 abbrev pub tick : ℕ → ℕ → Span
 tick t T = record { from = t; to = t + 1; ticks = T }
+
+-- the n ticks from tick i on, of T
+abbrev pub ticks : ℕ → ℕ → ℕ → Span
+ticks i n T = record { from = i; to = i + n; ticks = T }
 
 -- a span that has places
 pub record Ordered (s : Span) : Type 0 where

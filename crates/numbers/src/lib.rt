@@ -1,13 +1,20 @@
 // The slicing host's numbers: the ray that it hands over, and what it gets for each case of an answer (document 01, "Calls").
 
-use cast::CastAnswer;
 use cast::ColumnAnswer;
-use cast::HitAnswer;
 use field::Position;
 use field::Ray;
+use halving::CastAnswer;
+use halving::HitAnswer;
 ghost use mathlib.Core.Path.{_≡_};
 ghost use Prim.Native.Nat.{_^_, _<_};
-ghost use Rattle.numbers.specs.Numbers.{rayOf, castNumber, hitNumber, columnNumber};
+ghost use Rattle.halving.specs.Numbers.{castNumber, hitNumber};
+ghost use Rattle.cast.specs.Column.{columnNumber};
+ghost use Rattle.numbers.specs.Numbers.{rayOf};
+
+// What k and the tick count in a first hit's number: 2³² and 65,536.
+pub const CASE: u64 = 4294967296;
+
+pub const TICK: u64 = 65536;
 
 // The ray from A to B.
 pub fn ray_of(ax: i32, ay: i32, az: i32, bx: i32, by: i32, bz: i32) -> Ray
@@ -44,11 +51,11 @@ pub fn hit_number(answer: HitAnswer) -> u64
 {
     match answer {
         HitAnswer::Refused(number) => number as u64,
-        HitAnswer::Hit { tick, mark, probes } => mark as u64 * 4294967296
-            + tick as u64 * 65536
+        HitAnswer::Hit { tick, mark, probes } => mark as u64 * CASE
+            + tick as u64 * TICK
             + probes as u64,
-        HitAnswer::Clear { probes } => 3 * 4294967296 + probes as u64,
-        HitAnswer::Spent { tick, probes } => 4 * 4294967296 + tick as u64 * 65536 + probes as u64,
+        HitAnswer::Clear { probes } => 3 * CASE + probes as u64,
+        HitAnswer::Spent { tick, probes } => 4 * CASE + tick as u64 * TICK + probes as u64,
     }
 }
 

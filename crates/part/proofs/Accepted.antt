@@ -1,28 +1,32 @@
 -- An accepted file's trailer and nodes are as document 01 asks: `accepted-file`, from the check's answer.
--- `accepted-file file e .tree .postfix` says that each node finds what it needs held, from `e : checkFile file ≡ Accepted n i`.
+-- `accepted-file file e .tree .well-formed` says that each node finds what it needs held, from `e : checkFile file ≡ Accepted part`.
 use Prim.Native.Nat.{ℕ}
 use mathlib.Core.Path.{_≡_}
 use mathlib.Core.List.{List, [], _∷_, map}
 use borrow.Author.Tests.{eqb-true}
-use Rattle.part.specs.Questions.{firstNo}
-use Rattle.part.specs.Nodes.{Record, heldAfter, recordQuestions, recordsQuestions}
-use Rattle.part.specs.File.{iso, count, start, trailerQuestions, records, nodesFrom, nodes, fileQuestions, answerOf, checkFile}
-use Rattle.part.specs.Accepted.{Postfix, AcceptedFile}
+use Rattle.record.specs.Questions.{firstNo}
+use Rattle.record.specs.Nodes.{heldAfter}
+use Rattle.record.specs.Record.{Record, recordQuestions}
+use Rattle.record.specs.declared.Verdict.the-variants.{Yes}
+use Rattle.record.proofs.Questions.{all-yes, yes-append}
+use Rattle.record.proofs.Ranges.{ready}
+use Rattle.part.specs.File.{count, start, trailerQuestions, records, nodesFrom, nodes, recordsQuestions, fileQuestions}
+use Rattle.part.specs.File.{summary, answerOf, checkFile}
+use Rattle.part.specs.Accepted.{WellFormed, AcceptedFile}
+use Rattle.part.specs.declared.Summary.{Summary}
 use Rattle.part.specs.declared.Checked.the-variants.{Accepted}
-use Rattle.part.specs.declared.Verdict.the-variants.{Yes}
-use Rattle.part.proofs.Questions.{all-yes, yes-append}
-use Rattle.part.proofs.Records.{ready, nodes-length}
+use Rattle.part.proofs.Records.{nodes-length}
 use Rattle.part.proofs.Trailer.{accepted-trailer, count-low, count-high}
 use Rattle.part.proofs.File.{accepted}
 
-postfix : (rs : List Record) (held : ℕ) → firstNo (recordsQuestions rs held) ≡ Yes → Postfix (map (λ r. r .node) rs) held
-unfolding recordsQuestions Postfix
-postfix [] held ok = eqb-true held 1 (all-yes (recordsQuestions [] held) ok 0)
-postfix (r ∷ later) held ok =
+well-formed : (rs : List Record) (held : ℕ) → firstNo (recordsQuestions rs held) ≡ Yes → WellFormed (map (λ r. r .node) rs) held
+unfolding recordsQuestions WellFormed
+well-formed [] held ok = eqb-true held 1 (all-yes (recordsQuestions [] held) ok 0)
+well-formed (r ∷ later) held ok =
     let q = yes-append (recordQuestions r held) (recordsQuestions later (heldAfter (r .node) held)) ok in
-    (ready r held (q .0), postfix later (heldAfter (r .node) held) (q .1))
+    (ready r held (q .0), well-formed later (heldAfter (r .node) held) (q .1))
 
-pub accepted-file : (file : List ℕ) {n i : ℕ} → checkFile file ≡ Accepted n i → AcceptedFile file
+pub accepted-file : (file : List ℕ) {part : Summary} → checkFile file ≡ Accepted part → AcceptedFile file
 unfolding fileQuestions records nodes nodesFrom
 accepted-file file e =
     let ok = accepted file e in
@@ -34,13 +38,13 @@ accepted-file file e =
       tree = record {
         some = rw counted (count-low t);
         few = rw counted (count-high t);
-        postfix = postfix (records file) 0 (yes-append (trailerQuestions file) (recordsQuestions (records file) 0) ok .1);
+        well-formed = well-formed (records file) 0 (yes-append (trailerQuestions file) (recordsQuestions (records file) 0) ok .1);
       };
     }
 
--- the answer's two numbers
-pub accepted-numbers : (file : List ℕ) {n i : ℕ} → checkFile file ≡ Accepted n i → (n ≡ count file) × (i ≡ iso file)
+-- the answer's numbers are the file's
+pub accepted-summary : (file : List ℕ) {part : Summary} → checkFile file ≡ Accepted part → part ≡ summary file
 unfolding checkFile answerOf
-accepted-numbers file e =
-    let f : Accepted (count file) (iso file) ≡ Accepted _ _ = rw (accepted file e) at e in
-    (cc, cc)
+accepted-summary file e =
+    let f : Accepted (summary file) ≡ Accepted _ = rw (accepted file e) at e in
+    cc

@@ -1,18 +1,20 @@
 -- From the check's answer back to its questions; the numbers that they have (`file-numbered`).
--- `accepted file e` says that every question of the file is answered yes, from `e : checkFile file ≡ Accepted n i`.
+-- `accepted file e` says that every question of the file is answered yes, from `e : checkFile file ≡ Accepted part`.
 use Prim.Native.Nat.{ℕ, _≤_}
 use native.Mathlib.Omega.{arith}
 use mathlib.Core.Path.{_≡_, refl}
 use mathlib.Core.List.{List, [], _∷_}
-use Rattle.part.specs.Questions.{firstNo}
-use Rattle.part.specs.Nodes.{Record, heldAfter, recordQuestions, recordsQuestions}
-use Rattle.part.specs.File.{trailerQuestions, records, fileQuestions, answerOf, checkFile}
+use Rattle.record.specs.Questions.{firstNo}
+use Rattle.record.specs.Nodes.{heldAfter}
+use Rattle.record.specs.Record.{Record, nodeQuestions, recordQuestions}
+use Rattle.record.specs.declared.Verdict.{Verdict}
+use Rattle.record.specs.declared.Verdict.the-variants.{Yes, No}
+use Rattle.record.proofs.Questions.{Numbered, numbered-append}
+use Rattle.part.specs.File.{trailerQuestions, records, recordsQuestions, fileQuestions, answerOf, checkFile}
+use Rattle.part.specs.declared.Summary.{Summary}
 use Rattle.part.specs.declared.Checked.the-variants.{Refused, Accepted}
-use Rattle.part.specs.declared.Verdict.{Verdict}
-use Rattle.part.specs.declared.Verdict.the-variants.{Yes, No}
-use Rattle.part.proofs.Questions.{Numbered, numbered-append}
 
-pub answer-accepted : (v : Verdict) (file : List ℕ) {n i : ℕ} → answerOf v file ≡ Accepted n i → v ≡ Yes
+pub answer-accepted : (v : Verdict) (file : List ℕ) {part : Summary} → answerOf v file ≡ Accepted part → v ≡ Yes
 unfolding answerOf
 answer-accepted Yes file e = refl
 answer-accepted (No m) file e = let z : _≡_ {A = ℕ} 0 1 = cc in absurd (omega arith)
@@ -22,7 +24,7 @@ unfolding answerOf
 answer-refused Yes file e = let z : _≡_ {A = ℕ} 0 1 = cc in absurd (omega arith)
 answer-refused (No m) file e = cc
 
-pub accepted : (file : List ℕ) {n i : ℕ} → checkFile file ≡ Accepted n i → firstNo (fileQuestions file) ≡ Yes
+pub accepted : (file : List ℕ) {part : Summary} → checkFile file ≡ Accepted part → firstNo (fileQuestions file) ≡ Yes
 unfolding checkFile
 accepted file e = answer-accepted (firstNo (fileQuestions file)) file e
 
@@ -34,7 +36,7 @@ refused file e = answer-refused (firstNo (fileQuestions file)) file e
 
 module _ (k : ℕ) (h : 11 ≤ k) where
   records-numbered : (rs : List Record) (held : ℕ) → Numbered k (recordsQuestions rs held)
-  unfolding recordsQuestions recordQuestions
+  unfolding recordsQuestions recordQuestions nodeQuestions
   records-numbered [] held = (omega arith, omega arith, tt)
   records-numbered (r ∷ later) held =
       numbered-append k (recordQuestions r held) (recordsQuestions later (heldAfter (r .node) held))

@@ -9,11 +9,13 @@ use borrow.Author.Tests.{le-leb}
 use lib.ListN.{length, length-append}
 use lib.Seq.{getD-append-add}
 use Rattle.exact.proofs.Tests.{true-between}
-use Rattle.part.specs.Bytes.{u16, u32, i16, hasBytes, zeros}
-use Rattle.part.specs.Questions.{firstNo}
-use Rattle.part.specs.File.{iso, version, distance, marked, trailerQuestions, start, count, nodeAt, recordAt, recordsFrom, records, nodesFrom, nodes, fileQuestions, answerOf, checkFile}
-use Rattle.part.specs.declared.Verdict.{Verdict}
-use Rattle.part.specs.declared.Verdict.the-variants.{Yes, No}
+use Rattle.record.specs.Bytes.{u16, u32, i16, hasBytes, zeros}
+use Rattle.record.specs.Questions.{firstNo}
+use Rattle.record.specs.Record.{nodeAt, recordAt}
+use Rattle.record.specs.declared.Verdict.{Verdict}
+use Rattle.record.specs.declared.Verdict.the-variants.{Yes, No}
+use Rattle.part.specs.File.{iso, version, distance, marked, trailerQuestions, start, count, recordsFrom, records, nodesFrom, nodes}
+use Rattle.part.specs.File.{fileQuestions, answerOf, checkFile}
 
 module _ (lead file : List ℕ) where
   -- ---- at a place that is moved on by the leading bytes

@@ -1,8 +1,5 @@
-pub mod Questions
-pub mod Bytes
 pub mod Records
 pub mod Trailer
 pub mod File
 pub mod Accepted
 pub mod Leading
-pub mod Cases

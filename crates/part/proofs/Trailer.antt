@@ -10,12 +10,11 @@ use lib.ListN.{length}
 use lib.Dec.{leb, eqb}
 use Rattle.exact.specs.Range.{between}
 use Rattle.exact.proofs.Tests.{both-true, between-true}
-use Rattle.part.specs.Questions.{firstNo}
-use Rattle.part.specs.Nodes.{recordsQuestions}
-use Rattle.part.specs.File.{iso, distance, trailerQuestions, start, count, records, fileQuestions}
+use Rattle.record.specs.Questions.{firstNo}
+use Rattle.record.specs.declared.Verdict.the-variants.{Yes}
+use Rattle.record.proofs.Questions.{all-yes, yes-append}
+use Rattle.part.specs.File.{iso, distance, trailerQuestions, start, count, records, recordsQuestions, fileQuestions}
 use Rattle.part.specs.Accepted.{Trailer}
-use Rattle.part.specs.declared.Verdict.the-variants.{Yes}
-use Rattle.part.proofs.Questions.{all-yes, yes-append}
 
 pub trailer-facts : (file : List ℕ) → firstNo (trailerQuestions file) ≡ Yes → Trailer file
 unfolding trailerQuestions

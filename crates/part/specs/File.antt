@@ -1,17 +1,19 @@
 -- The part file: its trailer, its records, the check of a file (document 01, "The part file"; questions 1 to 11).
-use Prim.Native.Nat.{ℕ, zero, suc, _+_, _-_, _*_, _/_, _%_}
+use Prim.Native.Nat.{ℕ, zero, suc, _+_, _-_, _/_, _%_}
+use mathlib.Core.Path.{_≡_}
 use mathlib.Core.List.{List, [], _∷_, _++_, map}
-use mathlib.Core.Bool.{Bool, cond, _&&_}
-use lib.ListN.{length, drop}
-use lib.IntN.{ℤ, pos}
+use mathlib.Core.Bool.{Bool, _&&_}
+use lib.ListN.{length}
 use lib.Dec.{leb, eqb}
 use Rattle.exact.specs.Range.{between}
-use Rattle.part.specs.Bytes.{byte, u16, u32, i16, hasBytes, zeros}
-use Rattle.part.specs.Questions.{Question, firstNo}
-use Rattle.part.specs.Nodes.{Record, isPoint, recordsQuestions, numbers}
-use Rattle.part.specs.declared.Node.{Node}
-use Rattle.part.specs.declared.Verdict.{Verdict}
-use Rattle.part.specs.declared.Verdict.the-variants.{Yes, No}
+use Rattle.record.specs.Bytes.{u16, u32, hasBytes}
+use Rattle.record.specs.Questions.{Question, firstNo}
+use Rattle.record.specs.Nodes.{heldAfter}
+use Rattle.record.specs.Record.{Record, recordAt, recordQuestions}
+use Rattle.record.specs.declared.Node.{Node}
+use Rattle.record.specs.declared.Verdict.{Verdict}
+use Rattle.record.specs.declared.Verdict.the-variants.{Yes, No}
+use Rattle.part.specs.declared.Summary.{Summary}
 use Rattle.part.specs.declared.Checked.{Checked}
 use Rattle.part.specs.declared.Checked.the-variants.{Refused, Accepted}
 
@@ -50,21 +52,6 @@ start file = length file - distance file
 unfoldable pub count : List ℕ → ℕ
 count file = distance file / 12 - 1
 
--- the six numbers of the record at a place
-unfoldable pub nodeAt : List ℕ → ℕ → Node
-nodeAt file at = record {
-  kind = pos (byte file at);
-  radius = pos (u16 file (at + 2));
-  x = i16 file (at + 4);
-  y = i16 file (at + 6);
-  z = i16 file (at + 8);
-  weight = i16 file (at + 10);
-}
-
--- a point's byte 1 is zero, and an operator's bytes 1 to 11
-unfoldable pub recordAt : List ℕ → ℕ → Record
-recordAt file at = record { node = nodeAt file at; zeroed = zeros file (at + 1) (cond (isPoint (nodeAt file at)) 1 11) }
-
 -- n records from a place on
 unfoldable pub recordsFrom : List ℕ → ℕ → ℕ → List Record
 recordsFrom file zero at = []
@@ -79,24 +66,30 @@ nodesFrom file n at = map (λ r. r .node) (recordsFrom file n at)
 unfoldable pub nodes : List ℕ → List Node
 nodes file = nodesFrom file (count file) (start file)
 
--- ---- the check of a file, and the nodes handed over
+-- ---- the check of a file
+
+-- questions 6 to 10 about each record in file order, and then 11 about what is held at the end
+unfoldable pub recordsQuestions : List Record → ℕ → List Question
+recordsQuestions [] held = (11, eqb held 1) ∷ []
+recordsQuestions (r ∷ later) held = recordQuestions r held ++ recordsQuestions later (heldAfter (r .node) held)
 
 -- questions 1 to 11
 unfoldable pub fileQuestions : List ℕ → List Question
 fileQuestions file = trailerQuestions file ++ recordsQuestions (records file) 0
 
--- node count and iso-value, or the refusal number
+-- node count and iso-value
+abbrev pub summary : List ℕ → Summary
+summary file = record { nodes = count file; iso = iso file }
+
+-- these, or the refusal number
 unfoldable pub answerOf : Verdict → List ℕ → Checked
-answerOf Yes file = Accepted (count file) (iso file)
+answerOf Yes file = Accepted (summary file)
 answerOf (No number) file = Refused number
 
 unfoldable pub checkFile : List ℕ → Checked
 checkFile file = answerOf (firstNo (fileQuestions file)) file
 
--- a lent array afterwards: the nodes' numbers and then what was past them; of a refused file, as it was
-unfoldable pub handedOver : Verdict → List ℕ → List ℤ → List ℤ
-handedOver Yes file lent = numbers (nodes file) ++ drop (6 * count file) lent
-handedOver (No number) file lent = lent
-
-unfoldable pub loaded : List ℕ → List ℤ → List ℤ
-loaded file lent = handedOver (firstNo (fileQuestions file)) file lent
+-- what each case of an answer says: that its number is the first no's; or that no question says no, and the node count and the iso-value
+unfoldable pub Says : List ℕ → Checked → Type 0
+Says file (Refused number) = firstNo (fileQuestions file) ≡ No number
+Says file (Accepted part) = (firstNo (fileQuestions file) ≡ Yes) × (part .nodes ≡ count file) × (part .iso ≡ iso file)

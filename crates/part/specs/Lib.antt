@@ -1,5 +1,2 @@
-pub mod Bytes
-pub mod Questions
-pub mod Nodes
 pub mod File
 pub mod Accepted

@@ -2,14 +2,14 @@
 // the high, or "refused" and the number. The place is x, y and z as signed 16-bit numbers, little-endian, before the file's bytes;
 // with fewer than 6 bytes the file counts as empty.
 
-use field::BoundsAnswer;
+use bounds::BoundsAnswer;
+use bounds::place_bounds;
 use field::Position;
-use field::place_bounds;
 use io::read_full;
 use listing::file_start;
 use listing::print_number;
 use listing::print_signed;
-use part::i16_at;
+use record::i16_at;
 
 fn main() {
     // a place and one byte more than the longest file

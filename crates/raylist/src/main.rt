@@ -3,16 +3,19 @@
 // number. The ray is A and B as six signed 16-bit numbers and the budget an unsigned one, little-endian, before the file's bytes;
 // with fewer than 14 bytes the file counts as empty.
 
-use cast::CastAnswer;
 use cast::full_cast;
+use field::CROSSING;
+use field::EMPTY;
+use field::INSIDE;
 use field::Position;
 use field::Ray;
+use halving::CastAnswer;
 use io::read_full;
 use io::write_all;
 use listing::file_start;
 use listing::print_number;
-use part::i16_at;
-use part::u16_at;
+use record::i16_at;
+use record::u16_at;
 ghost use Prim.Native.Nat.{_+_, _≤_, _<_};
 ghost use lib.ListN.{length};
 
@@ -42,9 +45,9 @@ fn run_end(marks: &[u8], first: usize) -> usize
 // The line of a run; ticks not looked at make none.
 fn print_run(mark: u8, first: usize, after: usize) {
     match mark {
-        0 => print_number(b"empty ", first as u64, b' '),
-        1 => print_number(b"crossing ", first as u64, b' '),
-        2 => print_number(b"inside ", first as u64, b' '),
+        EMPTY => print_number(b"empty ", first as u64, b' '),
+        CROSSING => print_number(b"crossing ", first as u64, b' '),
+        INSIDE => print_number(b"inside ", first as u64, b' '),
         _ => return,
     }
     print_number(b"", after as u64, b'\n');

@@ -2,24 +2,32 @@
 use mathlib.Core.Path.{_≡_, ap, _∙_}
 use mathlib.Core.List.{List}
 use Prim.Native.Nat.{ℕ}
+use native.Mathlib.Omega.{arith}
 use lib.ListN.{length}
+use Rattle.field.specs.Solid.{solidOf}
+use Rattle.cast.specs.Ticks.{exponent}
 use Rattle.numbers.proofs.Numbers.{cast-number-fits, hit-number-fits, column-number-fits}
 use Rattle.view.specs.declared.ViewRay.{ViewRay}
 use Rattle.view.specs.declared.ViewAnswer.{ViewAnswer}
 use Rattle.view.specs.Call.{viewerFirstHit}
-use Rattle.totals.specs.declared.Totals.{Totals}
+use Rattle.tally.specs.declared.Totals.{Totals}
 use Rattle.totals.specs.declared.ViewCall.{ViewCall}
 use Rattle.totals.specs.declared.Call.{Call}
 use Rattle.totals.specs.declared.Call.the-variants as call
 use Rattle.totals.specs.declared.Answer.{Answer}
 use Rattle.totals.specs.Calls.{answerTo, bytesLeft, Demanded, Performed, totalsAfter, viewTo, Viewed, totalsAfterView}
-use Rattle.testhost.specs.Entries.{viewNumber, numberOf, NumberFits, totalsIn, totalsPut}
+use Rattle.view.specs.Numbers.{viewNumber}
+use Rattle.totals.specs.Numbers.{numberOf, NumberFits}
+use Rattle.testhost.specs.Entries.{totalsIn, totalsPut}
 
 pub number-fits : (file : List ℕ) (c : Call) (lent : List ℕ) (r : Answer) (after : List ℕ) → Performed file c lent r after → NumberFits r
 unfolding NumberFits answerTo Demanded
-number-fits file (call.FullCast ray budget) lent r after p = rw (p .answer) (cast-number-fits file ray budget _ (p .demands .counted))
-number-fits file (call.FirstHit ray budget) lent r after p = rw (p .answer) (hit-number-fits file ray budget _ (p .demands .alone) (p .demands .counted))
-number-fits file (call.Column ray) lent r after p = rw (p .answer) (column-number-fits file ray _ (p .demands .counted))
+number-fits file (call.FullCast ray budget) lent r after p =
+    rw (p .answer) (cast-number-fits (solidOf file) ray exponent (omega arith) budget _ (p .demands .counted))
+number-fits file (call.FirstHit ray budget) lent r after p =
+    rw (p .answer) (hit-number-fits (solidOf file) ray exponent (omega arith) budget _ (p .demands .alone) (p .demands .counted))
+number-fits file (call.Column ray) lent r after p =
+    rw (p .answer) (column-number-fits (solidOf file) ray exponent (omega arith) _ (p .demands .counted))
 
 abbrev viewCall : ViewRay → ℕ → ViewCall
 viewCall ray budget = record { ray = ray; budget = budget }

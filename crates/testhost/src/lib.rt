@@ -2,13 +2,14 @@
 // host links `fenalukki`, which has none of them.
 
 use field::Ray;
+use numbers::CASE;
 use numbers::cast_number;
 use numbers::column_number;
 use numbers::hit_number;
 use numbers::ray_of;
+use tally::Totals;
 use totals::Answer;
 use totals::Call;
-use totals::Totals;
 use totals::ViewCall;
 use totals::perform_by_value;
 use totals::view_by_value;
@@ -21,7 +22,9 @@ ghost use lib.ListN.{length};
 ghost use Rattle.numbers.specs.Numbers.{rayOf};
 ghost use Rattle.view.specs.Call.{viewerFirstHit};
 ghost use Rattle.totals.specs.Calls.{answerTo, bytesLeft, totalsAfter, totalsAfterView};
-ghost use Rattle.testhost.specs.Entries.{viewRayOf, viewNumber, placeIn, numberOf, NumberFits, callOf, totalsIn, totalsPut};
+ghost use Rattle.view.specs.Numbers.{viewNumber, viewPlace};
+ghost use Rattle.totals.specs.Numbers.{numberOf, NumberFits};
+ghost use Rattle.testhost.specs.Entries.{viewRayOf, callOf, totalsIn, totalsPut};
 
 fn view_ray_of(ax: f32, ay: f32, az: f32, bx: f32, by: f32, bz: f32) -> ViewRay
     ensures { λ r. ⌜ r ≡ viewRayOf ax ay az bx by bz ⌝ }
@@ -49,14 +52,14 @@ fn view_number(answer: ViewAnswer) -> u64
             entry: _,
             mark,
             probes,
-        } => mark as u64 * 4294967296 + probes as u64,
-        ViewAnswer::Clear { probes } => 3 * 4294967296 + probes as u64,
-        ViewAnswer::Spent { place: _, probes } => 4 * 4294967296 + probes as u64,
+        } => mark as u64 * CASE + probes as u64,
+        ViewAnswer::Clear { probes } => 3 * CASE + probes as u64,
+        ViewAnswer::Spent { place: _, probes } => 4 * CASE + probes as u64,
     }
 }
 
 fn place_in(answer: ViewAnswer) -> f32
-    ensures { λ r. ⌜ r ≡ placeIn answer ⌝ }
+    ensures { λ r. ⌜ r ≡ viewPlace answer ⌝ }
 {
     match answer {
         ViewAnswer::Refused(_) => 0.0,
@@ -132,9 +135,13 @@ pub extern "C" fn testhost_call(
     buffer: &mut [u8],
     totals: &mut [u32; 3],
 ) -> u64
-    ensures answer { λ r. ⌜ r ≡ numberOf (answerTo (now (file .entry)) (callOf which (rayOf ax ay az bx by bz) budget) (length (now (buffer .entry)))) ⌝ }
-    ensures bytes { λ _. ⌜ now (buffer .exit) ≡ bytesLeft (now (file .entry)) (callOf which (rayOf ax ay az bx by bz) budget) (now (buffer .entry)) ⌝ }
-    ensures counted { λ _. ⌜ now (totals .exit) ≡ totalsPut (totalsAfter (now (file .entry)) (callOf which (rayOf ax ay az bx by bz) budget) (length (now (buffer .entry))) (totalsIn (now (totals .entry)))) (now (totals .entry)) ⌝ }
+    ensures answer { λ r. ⌜ r ≡ numberOf
+        (answerTo (now (file .entry)) (callOf which (rayOf ax ay az bx by bz) budget) (length (now (buffer .entry)))) ⌝ }
+    ensures bytes { λ _. ⌜ now (buffer .exit) ≡ bytesLeft
+        (now (file .entry)) (callOf which (rayOf ax ay az bx by bz) budget) (now (buffer .entry)) ⌝ }
+    ensures counted { λ _. ⌜ now (totals .exit) ≡ totalsPut
+        (totalsAfter (now (file .entry)) (callOf which (rayOf ax ay az bx by bz) budget)
+        (length (now (buffer .entry))) (totalsIn (now (totals .entry)))) (now (totals .entry)) ⌝ }
 {
     let call = call_of(which, ray_of(ax, ay, az, bx, by, bz), budget);
     let counted = perform_by_value(file, call, buffer, totals_in(totals));
@@ -157,7 +164,9 @@ pub extern "C" fn testhost_view(
     totals: &mut [u32; 3],
 ) -> u64
     ensures answer { λ r. ⌜ r ≡ viewNumber (viewerFirstHit (now (file .entry)) (viewRayOf ax ay az bx by bz) budget) ⌝ }
-    ensures counted { λ _. ⌜ now (totals .exit) ≡ totalsPut (totalsAfterView (now (file .entry)) (record { ray = viewRayOf ax ay az bx by bz; budget = budget }) (totalsIn (now (totals .entry)))) (now (totals .entry)) ⌝ }
+    ensures counted { λ _. ⌜ now (totals .exit) ≡ totalsPut
+        (totalsAfterView (now (file .entry)) (record { ray = viewRayOf ax ay az bx by bz; budget = budget }) (totalsIn (now (totals .entry))))
+        (now (totals .entry)) ⌝ }
 {
     let call = ViewCall {
         ray: view_ray_of(ax, ay, az, bx, by, bz),
@@ -181,7 +190,7 @@ pub extern "C" fn testhost_place(
     bz: f32,
     budget: u32,
 ) -> f32
-    ensures { λ r. ⌜ r ≡ placeIn (viewerFirstHit (now (file .entry)) (viewRayOf ax ay az bx by bz) budget) ⌝ }
+    ensures { λ r. ⌜ r ≡ viewPlace (viewerFirstHit (now (file .entry)) (viewRayOf ax ay az bx by bz) budget) ⌝ }
 {
     place_in(viewer_first_hit(file, view_ray_of(ax, ay, az, bx, by, bz), budget))
 }

@@ -1,29 +1,31 @@
 -- What each call promises is what `Performed` or `Viewed` says of it. And laws of a call and the totals after it.
 use mathlib.Core.Path.{_≡_, refl, ap, sym, _∙_}
 use mathlib.Core.List.{List}
-use Prim.Native.Nat.{ℕ}
+use Prim.Native.Nat.{ℕ, _^_}
 use lib.ListN.{length}
-use Rattle.part.specs.Questions.{Question, firstNo}
-use Rattle.part.specs.declared.Verdict.the-variants.{No}
+use Rattle.record.specs.Questions.{Question, firstNo}
+use Rattle.record.specs.declared.Verdict.the-variants.{No}
 use Rattle.field.specs.declared.Ray.{Ray}
-use Rattle.cast.specs.declared.CastAnswer.{CastAnswer}
-use Rattle.cast.specs.declared.HitAnswer.{HitAnswer}
+use Rattle.halving.specs.declared.CastAnswer.{CastAnswer}
+use Rattle.halving.specs.declared.HitAnswer.{HitAnswer}
 use Rattle.cast.specs.declared.ColumnAnswer.{ColumnAnswer}
+use Rattle.cast.specs.Ticks.{exponent}
+use Rattle.cast.specs.Column.{columnBytes}
 use Rattle.cast.specs.Questions.{hitQuestions, bufferQuestions}
 use Rattle.cast.specs.Calls.{castAfter, fullCast, hitAfter, firstHit, columnAfter, columnAnswer}
 use Rattle.cast.proofs.Calls.{CastPromised, HitPromised, ColumnPromised}
 use Rattle.view.specs.declared.ViewAnswer.{ViewAnswer}
 use Rattle.view.specs.Call.{viewQuestions, viewOf, viewerTicks, viewerFirstHit}
 use Rattle.view.specs.Demands.{ViewDemands}
-use Rattle.totals.specs.declared.Totals.{Totals}
+use Rattle.tally.specs.declared.Totals.{Totals}
+use Rattle.tally.specs.declared.Tally.the-variants.{Refused}
+use Rattle.tally.specs.Counts.{afterTally, castTally, hitTally, columnTally, viewTally}
 use Rattle.totals.specs.declared.Call.{Call}
 use Rattle.totals.specs.declared.Call.the-variants as call
 use Rattle.totals.specs.declared.Answer.{Answer}
 use Rattle.totals.specs.declared.Answer.the-variants as answer
-use Rattle.totals.specs.declared.Tally.the-variants.{Refused}
 use Rattle.totals.specs.declared.ViewCall.{ViewCall}
-use Rattle.totals.specs.Counts.{afterTally, castTally, hitTally, columnTally, tallyOf, viewTally}
-use Rattle.totals.specs.Calls.{answerTo, bytesLeft, Demanded, Performed, totalsAfter, viewTo, Viewed, totalsAfterView}
+use Rattle.totals.specs.Calls.{answerTo, bytesLeft, Demanded, Performed, tallyOf, totalsAfter, viewTo, Viewed, totalsAfterView}
 
 module _ (file : List ℕ) (ray : Ray) (lent : List ℕ) {c : Call} where
   pub cast-performed : (budget : ℕ) (w : CastAnswer) (after : List ℕ)
@@ -45,7 +47,7 @@ module _ (file : List ℕ) (ray : Ray) (lent : List ℕ) {c : Call} where
       rw is (record { answer = ap answer.Column a; bytes = bytes; demands = rw (← a) demands })
 
 module _ (file : List ℕ) (c : ViewCall) {r : ViewAnswer} where
-  pub viewed : (r ≡ viewerFirstHit file (c .ray) (c .budget)) × ViewDemands file (c .ray) (c .budget) r → Viewed file c r
+  pub viewed : (r ≡ viewerFirstHit file (c .ray) (c .budget)) × ViewDemands file (c .ray) exponent (c .budget) r → Viewed file c r
   unfolding viewTo
   viewed (a, demands) = record { answer = a; demands = demands }
 
@@ -74,9 +76,9 @@ same-views file c t u (v, _) (w, _) = v .answer ∙ sym (w .answer)
 
 -- the questions of a call
 abbrev pub questionsOf : List ℕ → Call → ℕ → List Question
-questionsOf file (call.FullCast ray budget) room = bufferQuestions file ray 1024 room
+questionsOf file (call.FullCast ray budget) room = bufferQuestions file ray (2 ^ exponent) room
 questionsOf file (call.FirstHit ray budget) room = hitQuestions file ray
-questionsOf file (call.Column ray) room = bufferQuestions file ray 128 room
+questionsOf file (call.Column ray) room = bufferQuestions file ray columnBytes room
 
 module _ (file : List ℕ) {n : ℕ} (t : Totals) where
   -- a call that its questions refuse counts as a refusal

@@ -15,7 +15,8 @@ use base.Fml.{GName, Lft, Share, ftrue, flft, fobs, fauth, fbor, fobor, fat, fro
 use prog.Wp.{Heap, Env, Calls, Loops, spotOf}
 use ghost.Atoms.{Atoms}
 use contract.Monad.{fact}
-use types.Kit.{Given, Item, ‵, raw, some, later, _⊛_, ⋆, Seq, Step, step, Go, !, Goal, Post, prop, runs, frees, Soaks, nth, del, _$_, _∵_, qed, move, drop, use1, use2, split, join, pick, suffices, frame, rewrite, await, done}
+use types.Kit.{Given, Item, ‵, raw, some, later, _⊛_, ⋆, Seq, Step, step, Go, !, Goal, Post, prop, runs, frees, Soaks, nth, del}
+use types.Kit.{_$_, _∵_, qed, move, drop, use1, use2, split, join, pick, suffices, frame, rewrite, await, done}
 use types.Run.{Opd, load, from, stop, hop, look, look-raw, init, store-raw, of-opd, and-then, no-more, assigns, land, forget, free1}
 use sound.WpLaws.{FmC}
 use types.SemTy.{Body}
@@ -32,11 +33,11 @@ use denote.Triple.Spec.{tripleOf, exits}
 use denote.Triple.Clauses.{Ended, Lasts, lasts}
 use denote.Triple.Call.{calls-at}
 use denote.Triple.Walked.{says}
-use Rattle.totals.specs.declared.Totals.{Totals}
-use Rattle.totals.specs.declared.Tally.{Tally}
-use Rattle.totals.specs.Counts.{afterTally}
-use Rattle.totals.proofs.Totals as T
-use Rattle.totals.proofs.Totals.Laws as T′
+use Rattle.tally.specs.declared.Totals.{Totals}
+use Rattle.tally.specs.declared.Tally.{Tally}
+use Rattle.tally.specs.Counts.{afterTally}
+use Rattle.tally.proofs.Totals as T
+use Rattle.tally.proofs.Totals.Laws as T′
 
 -- the machine values of totals, and that such are of their type
 abbrev val : Totals → Val

@@ -1,3 +1,2 @@
-pub mod Counts
 pub mod Calls
 pub mod Lent

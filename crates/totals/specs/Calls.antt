@@ -3,18 +3,21 @@ use mathlib.Core.Path.{_≡_}
 use mathlib.Core.List.{List}
 use Prim.Native.Nat.{ℕ}
 use lib.ListN.{length}
+use Rattle.field.specs.Solid.{solidOf}
+use Rattle.cast.specs.Ticks.{exponent}
 use Rattle.cast.specs.Calls.{fullCast, marksLeft, firstHit, columnAnswer, bitsLeft}
 use Rattle.cast.specs.Demands.{CastDemands, HitDemands, ColumnDemands}
 use Rattle.view.specs.declared.ViewAnswer.{ViewAnswer}
 use Rattle.view.specs.Call.{viewerFirstHit}
 use Rattle.view.specs.Demands.{ViewDemands}
-use Rattle.totals.specs.declared.Totals.{Totals}
+use Rattle.tally.specs.declared.Totals.{Totals}
+use Rattle.tally.specs.declared.Tally.{Tally}
+use Rattle.tally.specs.Counts.{afterTally, castTally, hitTally, columnTally, viewTally}
 use Rattle.totals.specs.declared.Call.{Call}
 use Rattle.totals.specs.declared.Call.the-variants as call
 use Rattle.totals.specs.declared.Answer.{Answer}
 use Rattle.totals.specs.declared.Answer.the-variants as answer
 use Rattle.totals.specs.declared.ViewCall.{ViewCall}
-use Rattle.totals.specs.Counts.{afterTally, tallyOf, viewTally}
 
 -- ---- full cast, first hit and column
 
@@ -32,9 +35,9 @@ bytesLeft file (call.Column ray) lent = bitsLeft file ray lent
 
 -- demands 2 and 3 of the answer, and of the bytes afterwards in a buffer of so many
 unfoldable pub Demanded : List ℕ → Call → ℕ → List ℕ → Type 0
-Demanded file (call.FullCast ray budget) room after = CastDemands file ray budget (fullCast file ray budget room) after
-Demanded file (call.FirstHit ray budget) room after = HitDemands file ray budget (firstHit file ray budget)
-Demanded file (call.Column ray) room after = ColumnDemands file ray (columnAnswer file ray room) after
+Demanded file (call.FullCast ray budget) room after = CastDemands (solidOf file) ray exponent budget (fullCast file ray budget room) after
+Demanded file (call.FirstHit ray budget) room after = HitDemands (solidOf file) ray exponent budget (firstHit file ray budget)
+Demanded file (call.Column ray) room after = ColumnDemands (solidOf file) ray exponent (columnAnswer file ray room) after
 
 -- a call that is lent no totals: its answer, and the bytes afterwards in the buffer that was lent
 pub record Performed (file : List ℕ) (call : Call) (lent : List ℕ) (r : Answer) (after : List ℕ) : Type 0 where
@@ -42,7 +45,13 @@ pub record Performed (file : List ℕ) (call : Call) (lent : List ℕ) (r : Answ
   pub bytes : after ≡ bytesLeft file call lent
   pub demands : Demanded file call (length lent) after
 
--- the totals after it
+-- what an answer adds to the totals
+unfoldable pub tallyOf : Answer → Tally
+tallyOf (answer.FullCast a) = castTally a
+tallyOf (answer.FirstHit a) = hitTally a
+tallyOf (answer.Column a) = columnTally a
+
+-- the totals after the call
 unfoldable pub totalsAfter : List ℕ → Call → ℕ → Totals → Totals
 totalsAfter file call room totals = afterTally totals (tallyOf (answerTo file call room))
 
@@ -55,7 +64,7 @@ viewTo file call = viewerFirstHit file (call .ray) (call .budget)
 -- a call that is lent no totals: its answer, and what `view` promises of it
 pub record Viewed (file : List ℕ) (call : ViewCall) (r : ViewAnswer) : Type 0 where
   pub answer : r ≡ viewTo file call
-  pub demands : ViewDemands file (call .ray) (call .budget) r
+  pub demands : ViewDemands file (call .ray) exponent (call .budget) r
 
 -- the totals after it
 unfoldable pub totalsAfterView : List ℕ → ViewCall → Totals → Totals

@@ -1,34 +1,26 @@
-// The running totals: a record by value and its update, the casting calls that hand it on by value, and two thin functions that are
-// lent it (document 01, "Calls").
+// The casting calls: lent no totals, handed them by value, and, in two thin functions, lent them (document 01, "Calls").
 
-use cast::CastAnswer;
 use cast::ColumnAnswer;
-use cast::HitAnswer;
 use cast::column;
 use cast::first_hit;
 use cast::full_cast;
 use field::Ray;
+use halving::CastAnswer;
+use halving::HitAnswer;
+use tally::Tally;
+use tally::Totals;
+use tally::cast_tally;
+use tally::column_tally;
+use tally::count;
+use tally::hit_tally;
+use tally::view_tally;
 use view::ViewAnswer;
 use view::ViewRay;
 use view::viewer_first_hit;
 ghost use mathlib.Core.Path.{_≡_};
-ghost use Prim.Native.Nat.{_+_};
 ghost use lib.ListN.{length};
-ghost use Rattle.totals.specs.Counts.{capped, afterTally, castTally, hitTally, columnTally, viewTally, tallyOf};
-ghost use Rattle.totals.specs.Calls.{Performed, totalsAfter, Viewed, totalsAfterView};
-
-// The running totals.
-pub struct Totals {
-    pub casts: u32,
-    pub probes: u32,
-    pub refusals: u32,
-}
-
-// What a call adds to them: a cast with its probes, or a refusal.
-pub enum Tally {
-    Cast(u32),
-    Refused,
-}
+ghost use Rattle.tally.specs.Counts.{afterTally, viewTally};
+ghost use Rattle.totals.specs.Calls.{tallyOf, Performed, totalsAfter, Viewed, totalsAfterView};
 
 // A call on a ray in whole steps.
 pub enum Call {
@@ -61,87 +53,9 @@ pub struct CountedViewAnswer {
     pub totals: Totals,
 }
 
-// ---- the update
-
-// A sum that stays at the ceiling.
-fn capped_sum(total: u32, more: u32) -> u32
-    ensures { λ r. ⌜ r ≡ capped (total + more) ⌝ }
-{
-    if total <= 4294967295 - more {
-        total + more
-    } else {
-        4294967295
-    }
-}
-
-// The totals after a call.
-pub fn count(totals: Totals, tally: Tally) -> Totals
-    ensures { λ r. ⌜ r ≡ afterTally totals tally ⌝ }
-{
-    match tally {
-        Tally::Cast(probes) => Totals {
-            casts: capped_sum(totals.casts, 1),
-            probes: capped_sum(totals.probes, probes),
-            refusals: totals.refusals,
-        },
-        Tally::Refused => Totals {
-            casts: totals.casts,
-            probes: totals.probes,
-            refusals: capped_sum(totals.refusals, 1),
-        },
-    }
-}
+// ---- the totals after an answer
 
 // What an answer adds.
-fn cast_tally(answer: CastAnswer) -> Tally
-    ensures { λ r. ⌜ r ≡ castTally answer ⌝ }
-{
-    match answer {
-        CastAnswer::Refused(_) => Tally::Refused,
-        CastAnswer::Complete { probes } => Tally::Cast(probes),
-        CastAnswer::Spent { tick: _, probes } => Tally::Cast(probes),
-    }
-}
-
-fn hit_tally(answer: HitAnswer) -> Tally
-    ensures { λ r. ⌜ r ≡ hitTally answer ⌝ }
-{
-    match answer {
-        HitAnswer::Refused(_) => Tally::Refused,
-        HitAnswer::Hit {
-            tick: _,
-            mark: _,
-            probes,
-        } => Tally::Cast(probes),
-        HitAnswer::Clear { probes } => Tally::Cast(probes),
-        HitAnswer::Spent { tick: _, probes } => Tally::Cast(probes),
-    }
-}
-
-fn column_tally(answer: ColumnAnswer) -> Tally
-    ensures { λ r. ⌜ r ≡ columnTally answer ⌝ }
-{
-    match answer {
-        ColumnAnswer::Refused(_) => Tally::Refused,
-        ColumnAnswer::Complete { probes } => Tally::Cast(probes),
-    }
-}
-
-fn view_tally(answer: ViewAnswer) -> Tally
-    ensures { λ r. ⌜ r ≡ viewTally answer ⌝ }
-{
-    match answer {
-        ViewAnswer::Refused(_) => Tally::Refused,
-        ViewAnswer::Hit {
-            entry: _,
-            mark: _,
-            probes,
-        } => Tally::Cast(probes),
-        ViewAnswer::Clear { probes } => Tally::Cast(probes),
-        ViewAnswer::Spent { place: _, probes } => Tally::Cast(probes),
-    }
-}
-
 fn tally_of(answer: Answer) -> Tally
     ensures { λ r. ⌜ r ≡ tallyOf answer ⌝ }
 {

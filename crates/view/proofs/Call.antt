@@ -1,31 +1,34 @@
--- The viewer's first hit: its verdict (`view-verdict`) is a first hit's on the ray in steps, or 15; so its answer is a first hit's with places as floats
--- (`view-found`), and demands 2 and 3 of it are a first hit's (`view-promised`).
-use mathlib.Core.Path.{_≡_, refl, sym, ap, _∙_}
+-- The viewer's first hit: its verdict (`view-verdict`) is a first hit's on the ray in steps, or 15; so its answer is a first hit's with places as
+-- floats (`view-found`), and demands 2 and 3 of it are a first hit's, for every power of two ticks to 2^23 (`view-demands`); `view-promised` is of
+-- the call.
+use mathlib.Core.Path.{_≡_, refl, sym, _∙_}
 use mathlib.Core.Logic.{_⊎_, inl, inr}
 use mathlib.Core.List.{List, [], _∷_, _++_}
 use mathlib.Core.Bool.{Bool, true, false, cond, _&&_}
-use Prim.Native.Nat.{ℕ, _≤_}
+use Prim.Native.Nat.{ℕ, _^_, _≤_}
 use native.Mathlib.Omega.{arith}
 use lib.Dec.{lit≤}
-use Rattle.part.specs.Questions.{firstNo}
+use Rattle.record.specs.Questions.{firstNo}
 use Rattle.part.specs.File.{fileQuestions, checkFile}
-use Rattle.part.specs.declared.Verdict.{Verdict}
-use Rattle.part.specs.declared.Verdict.the-variants.{Yes, No}
+use Rattle.part.specs.declared.Summary.{Summary}
+use Rattle.record.specs.declared.Verdict.{Verdict}
+use Rattle.record.specs.declared.Verdict.the-variants.{Yes, No}
 use Rattle.part.specs.declared.Checked.the-variants.{Accepted, Refused}
-use Rattle.part.proofs.Questions.{next, firstNo-append, no-is-not-yes, no-numbered}
+use Rattle.record.proofs.Questions.{next, firstNo-append, no-is-not-yes, no-numbered}
 use Rattle.part.proofs.File.{answer-accepted, answer-refused, file-numbered}
 use Rattle.field.specs.declared.Ray.{Ray}
-use Rattle.field.specs.Loading.{rayQuestions}
-use Rattle.field.proofs.Loading.{ray-verdict}
-use Rattle.cast.specs.declared.HitAnswer.{HitAnswer}
-use Rattle.cast.specs.declared.HitAnswer.the-variants as found
-use Rattle.cast.specs.FirstHit.{hitLookedAt}
-use Rattle.cast.specs.Ticks.{rayState}
+use Rattle.field.specs.Solid.{solidOf}
+use Rattle.loading.specs.Loading.{rayQuestions}
+use Rattle.loading.proofs.Loading.{ray-verdict}
+use Rattle.halving.specs.declared.HitAnswer.{HitAnswer}
+use Rattle.halving.specs.declared.HitAnswer.the-variants as found
+use Rattle.halving.specs.FirstHit.{hitLookedAt}
+use Rattle.cast.specs.Ticks.{exponent, rayState}
 use Rattle.cast.specs.Questions.{endsDiffer, hitQuestions}
 use Rattle.cast.specs.Calls.{rayHit, hitAfter, firstHit}
-use Rattle.cast.specs.Demands.{Sound, AloneHit, CountedHit}
-use Rattle.cast.proofs.FirstHit.{Found}
-use Rattle.cast.proofs.Demands.{no-ticks, hit-within, ray-found, hit-demands}
+use Rattle.cast.specs.Demands.{Sound, AloneHit, CountedHit, SameOrder}
+use Rattle.halving.proofs.FirstHit.{Found}
+use Rattle.cast.proofs.Demands.{hit-valid, no-ticks, ray-found, hit-by, hit-within}
 use Rattle.view.specs.Ray.{whole, endWhole, rayWhole, stepsRay}
 use Rattle.view.specs.Call.{floatQuestions, viewQuestions, viewOf, viewerTicks, viewerFirstHit}
 use Rattle.view.specs.Demands.{inTicks, CountedView, ViewDemands}
@@ -37,7 +40,8 @@ use Rattle.view.proofs.Places.{in-ticks, exact-places}
 
 -- ---- the verdict
 
-six : (a b c d e f : Bool) → firstNo ((15, a) ∷ (15, b) ∷ (15, c) ∷ (15, d) ∷ (15, e) ∷ (15, f) ∷ []) ≡ cond ((a && b && c) && (d && e && f)) Yes (No 15)
+six : (a b c d e f : Bool)
+    → firstNo ((15, a) ∷ (15, b) ∷ (15, c) ∷ (15, d) ∷ (15, e) ∷ (15, f) ∷ []) ≡ cond ((a && b && c) && (d && e && f)) Yes (No 15)
 unfolding firstNo
 six true true true true true true = refl
 six true true true true true false = refl
@@ -106,7 +110,7 @@ module _ (file : List ℕ) (ray : ViewRay) where
     -- ---- the answer in ticks
 
     -- floats that are whole steps: a first hit's
-    pub view-found : rayWhole ray ≡ true → viewerFirstHit file ray budget ≡ viewOf 1024 (firstHit file steps budget)
+    pub view-found : rayWhole ray ≡ true → viewerFirstHit file ray budget ≡ viewOf (2 ^ exponent) (firstHit file steps budget)
     unfolding viewerFirstHit viewerTicks firstHit
     view-found w = rw (view-verdict, hit-verdict, w)
 
@@ -115,54 +119,61 @@ module _ (file : List ℕ) (ray : ViewRay) where
     unfolding viewerFirstHit viewerTicks hitAfter viewOf checkFile next
     view-refused w e = rw (view-verdict, w, answer-refused (firstNo (fileQuestions file)) file e)
 
-    pub view-15 : rayWhole ray ≡ false → {n i : ℕ} → checkFile file ≡ Accepted n i → viewerFirstHit file ray budget ≡ view.Refused 15
+    pub view-15 : rayWhole ray ≡ false → {part : Summary} → checkFile file ≡ Accepted part → viewerFirstHit file ray budget ≡ view.Refused 15
     unfolding viewerFirstHit viewerTicks hitAfter viewOf checkFile next
     view-15 w e = rw (view-verdict, w, answer-accepted (firstNo (fileQuestions file)) file e)
 
-    -- ---- demands 2 and 3, and the exact places
+  -- ---- demands 2 and 3, and the exact places, with 2^k ticks
 
-    counted : (a : HitAnswer) → Found (rayState file steps) budget 10 0 0 a → CountedHit file steps budget a → CountedView file steps budget (viewOf 1024 a)
+  module _ (k budget : ℕ) where
+    counted : (a : HitAnswer) → Found (rayState (solidOf file) steps (2 ^ k)) budget k 0 0 a → CountedHit (solidOf file) steps k budget a
+        → CountedView file ray k budget (viewOf (2 ^ k) a)
     unfolding CountedView CountedHit inTicks viewOf
     counted (found.Hit t s p) h c = c
     counted (found.Clear p) h c = c
     counted (found.Spent t p) h c = c
 
     -- of an answer in ticks
-    abbrev DemandsMet : HitAnswer → Type 0
-    DemandsMet a = AloneHit file steps a × (CountedView file steps budget (viewOf 1024 a) × Sound file steps (hitLookedAt 1024 a))
+    pub record DemandsMet (a : HitAnswer) : Type 0 where
+      pub alone : AloneHit (solidOf file) steps (2 ^ k) a
+      pub counted : CountedView file ray k budget (viewOf (2 ^ k) a)
+      pub order : SameOrder (solidOf file) steps k budget a
+      pub sound : Sound (solidOf file) steps (2 ^ k) (hitLookedAt (2 ^ k) a)
 
-    found-demands : firstNo (hitQuestions file steps) ≡ Yes → DemandsMet (rayHit file steps budget)
-    unfolding firstHit hitAfter
-    found-demands e =
-        let is : firstHit file steps budget ≡ rayHit file steps budget = ap (λ (v : Verdict). hitAfter v file steps budget) e in
-        let d = rw is at (hit-demands file steps budget) in
-        (d .alone, (counted (rayHit file steps budget) (ray-found file steps e budget) (d .counted), d .sound))
-
-    refused-demands : {n : ℕ} → firstNo (viewQuestions file ray) ≡ No n → DemandsMet (found.Refused n)
-    unfolding AloneHit CountedView viewOf hitLookedAt
-    refused-demands e = (tt, (refusal e, no-ticks file steps))
-
-    ticks-demands : DemandsMet (viewerTicks file ray budget)
-    unfolding viewerTicks hitAfter
+    ticks-demands : DemandsMet (viewerTicks k file ray budget)
+    unfolding viewerTicks hitAfter AloneHit CountedView SameOrder viewOf hitLookedAt
     ticks-demands = go (firstNo (viewQuestions file ray)) refl
       where
-        go : (v : Verdict) → firstNo (viewQuestions file ray) ≡ v → DemandsMet (hitAfter v file steps budget)
-        go Yes e = found-demands (hit-yes e)
-        go (No n) e = refused-demands e
+        go : (v : Verdict) → firstNo (viewQuestions file ray) ≡ v → DemandsMet (hitAfter v (solidOf file) steps k budget)
+        go Yes e =
+            let valid = hit-valid file steps (hit-yes e) in
+            let d = hit-by (solidOf file) steps k budget Yes (λ y. valid) (λ n f. no-is-not-yes (sym f)) in
+            let a = rayHit (solidOf file) steps k budget in
+            record {
+              alone = d .alone;
+              counted = counted a (ray-found (solidOf file) steps k budget valid) (d .counted);
+              order = d .order;
+              sound = d .sound;
+            }
+        go (No n) e = record { alone = tt; counted = refusal e; order = tt; sound = no-ticks (solidOf file) steps (2 ^ k) }
 
-    pub view-promised : {a : ViewAnswer} → a ≡ viewerFirstHit file ray budget → (a ≡ viewerFirstHit file ray budget) × ViewDemands file ray budget a
-    unfolding viewerFirstHit
-    view-promised e =
+    -- a power of two for which places are floats exactly
+    pub view-demands : k ≤ 23 → ViewDemands file ray k budget (viewOf (2 ^ k) (viewerTicks k file ray budget))
+    view-demands few =
         let d = ticks-demands in
-        let f = viewerTicks file ray budget in
-        let near = hit-within file steps f (d .0) in
-        let back = in-ticks 10 (lit≤ tt) f near in (
-          e,
-          rw e (record {
-            ticks = back;
-            exact = exact-places 10 (lit≤ tt) f near;
-            alone = rw back (d .0);
-            counted = d .1 .0;
-            sound = rw back (d .1 .1);
-          }),
-        )
+        let f = viewerTicks k file ray budget in
+        let near = hit-within (solidOf file) steps (2 ^ k) f (d .alone) in
+        let back = in-ticks k few f near in
+        record {
+          ticks = back;
+          exact = exact-places k few f near;
+          alone = rw back (d .alone);
+          counted = d .counted;
+          order = rw back (d .order);
+          sound = rw back (d .sound);
+        }
+
+  pub view-promised : (budget : ℕ) {a : ViewAnswer} → a ≡ viewerFirstHit file ray budget
+      → (a ≡ viewerFirstHit file ray budget) × ViewDemands file ray exponent budget a
+  unfolding viewerFirstHit
+  view-promised budget e = (e, rw e (view-demands exponent budget (lit≤ tt)))

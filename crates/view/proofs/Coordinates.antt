@@ -10,10 +10,10 @@ use mir.Syntax.{w32}
 use mir.Val.{SFits}
 use Rattle.exact.proofs.Machine.{back, known}
 use Rattle.exact.proofs.Tests.{cond-is, true-both}
-use Rattle.part.specs.Nodes.{coordinate}
+use Rattle.record.specs.Nodes.{coordinate}
 use Rattle.field.specs.declared.Position.{Position}
 use Rattle.field.specs.declared.Ray.{Ray}
-use Rattle.field.specs.Loading.{positionInRange, rayInRange}
+use Rattle.loading.specs.Loading.{positionInRange, rayInRange}
 use Rattle.view.specs.Steps.{stepsOf}
 use Rattle.view.specs.Ray.{isWhole, orZero, whole, endWhole, coordinateOf, positionOf, stepsRay, endSteps, rayWhole, raySteps}
 use Rattle.view.specs.declared.Steps.{Steps}

@@ -6,4 +6,3 @@ pub mod Whole
 pub mod Coordinates
 pub mod Places
 pub mod Call
-pub mod Cases

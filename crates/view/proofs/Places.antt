@@ -1,9 +1,10 @@
--- A place as a float: the quotient of two whole floats is the fraction rounded once; over a power of two it is the fraction exactly, and the tick is got back
--- from it.
+-- A place as a float: the quotient of two whole floats is the fraction rounded once; over a power of two it is the fraction exactly, and the tick
+-- is got back from it.
 use mathlib.Core.Path.{_≡_, refl, ap, sym, _∙_, subst}
 use mathlib.Core.Bool.{Bool, true, false, cond, true≢false}
 use Prim.Native.Nat.{ℕ, zero, suc, _*_, _/_, _^_, _≤_, _<_}
-use native.Mathlib.Nat.{le-trans, le-of-eq, lt-irrefl, lt-of-lt-of-le, lt-of-le-of-lt, mul-pos, mul-one, mul-comm, mul-assoc, mul-le-mul-left, mul-div-cancel, le-add-right}
+use native.Mathlib.Nat.{le-trans, le-of-eq, lt-irrefl, lt-of-lt-of-le, lt-of-le-of-lt, le-add-right}
+use native.Mathlib.Nat.{mul-pos, mul-one, mul-comm, mul-assoc, mul-le-mul-left, mul-div-cancel}
 use lib.Dec.{eqb, lit≤, lit<}
 use lib.IntN.{pos, negsuc, natAbs}
 use lib.Pow.{pow-pos, pow-mono}
@@ -14,9 +15,9 @@ use lib.Ieee.Scale.{round-same}
 use lib.Ieee.Back.{round-whole}
 use lib.Ieee.Positive.{first-pos}
 use borrow.Author.Tests.{ne-eqb}
-use Rattle.cast.specs.FirstHit.{hitLookedAt}
-use Rattle.cast.specs.declared.HitAnswer.{HitAnswer}
-use Rattle.cast.specs.declared.HitAnswer.the-variants as found
+use Rattle.halving.specs.FirstHit.{hitLookedAt}
+use Rattle.halving.specs.declared.HitAnswer.{HitAnswer}
+use Rattle.halving.specs.declared.HitAnswer.the-variants as found
 use Rattle.view.specs.Floats.{Equals, placeOf, tickAt}
 use Rattle.view.specs.Call.{viewOf}
 use Rattle.view.specs.Demands.{inTicks, ExactPlace}
@@ -46,7 +47,8 @@ quotient (fin false m e) (fin false n d) a b B v w =
 
 pub divided : (a b : ℕ) → a ≤ 2 ^ 24 → b ≤ 2 ^ 24 → 0 < b → div binary32 (ofInt binary32 (pos a)) (ofInt binary32 (pos b)) ≡ placeOf b a
 unfolding ofInt placeOf
-divided a b H K B = quotient (round binary32 false a 1) (round binary32 false b 1) a b B (round-whole binary32 false a H) (round-whole binary32 false b K)
+divided a b H K B =
+    quotient (round binary32 false a 1) (round binary32 false b 1) a b B (round-whole binary32 false a H) (round-whole binary32 false b K)
 
 -- ---- places of a power of two ticks
 

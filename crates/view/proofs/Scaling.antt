@@ -21,7 +21,8 @@ digits : (f : Format) (s : Bool) (m : ℕ) (e : ℤ) → T (fits f (fin s m e)) 
 unfolding fits
 digits f s zero e t = pow-pos (prec f)
 digits f s (suc m) e t =
-    ltb→lt (suc m) (2 ^ prec f) (and-r (eqb (suc m % 2) 1) (ltb (suc m) (2 ^ prec f)) (and-l (eqb (suc m % 2) 1 && ltb (suc m) (2 ^ prec f)) (leb (down e) (2 ^ low f))
+    ltb→lt (suc m) (2 ^ prec f) (and-r (eqb (suc m % 2) 1) (ltb (suc m) (2 ^ prec f))
+    (and-l (eqb (suc m % 2) 1 && ltb (suc m) (2 ^ prec f)) (leb (down e) (2 ^ low f))
     (and-l (eqb (suc m % 2) 1 && ltb (suc m) (2 ^ prec f) && leb (down e) (2 ^ low f)) (ltb (suc m * up e) (2 ^ suc (emax f) * down e)) t)))
 
 reach : (f : Format) (s : Bool) (m : ℕ) (e : ℤ) → T (fits f (fin s m e)) → down e ≤ 2 ^ low f
@@ -63,7 +64,8 @@ unfolding round
 overflow-up a c C h =
     let big : round binary32 false (2 ^ 128) 1 ≡ inf false = refl in
     top-only (round binary32 false a c)
-    (subst (λ (y : Float). T (le y (round binary32 false a c))) big (round-mono binary32 (2 ^ 128) 1 a c (zero-lt-suc 0) C (le-trans h (le-of-eq (sym (mul-one a))))))
+    (subst (λ (y : Float). T (le y (round binary32 false a c))) big
+    (round-mono binary32 (2 ^ 128) 1 a c (zero-lt-suc 0) C (le-trans h (le-of-eq (sym (mul-one a))))))
 
 overflows : (s : Bool) (a c : ℕ) → 0 < c → 2 ^ 128 * c ≤ a → round binary32 s a c ≡ inf s
 unfolding neg

@@ -1,10 +1,11 @@
--- What `stepsOf` answers, and how the code finds it: the tests of the product's range (`range-test`), its truncation (`truncated`) and the comparison with
--- the truncation cast back (`whole-test`). `exactly`: it answers n exactly where 64 times the float's exact value is n.
+-- What `stepsOf` answers, and how the code finds it: the tests of the product's range (`range-test`), its truncation (`truncated`) and the comparison
+-- with the truncation cast back (`whole-test`). `exactly`: it answers n exactly where 64 times the float's exact value is n.
 use mathlib.Core.Path.{_≡_, refl, sym, ap, _∙_}
 use mathlib.Core.Logic.{_⊎_, inl, inr}
 use mathlib.Core.Bool.{Bool, true, false, cond, _&&_, false≢true}
 use Prim.Native.Nat.{ℕ, zero, suc, _-_, _*_, _/_, _%_, _^_, _≤_, _<_, min}
-use native.Mathlib.Nat.{le-trans, le-of-eq, le-of-lt, lt-of-lt-of-le, lt-of-le-of-lt, not-le-of-lt, le-of-suc-le-suc, mul-le-mul-right, mul-lt-mul-of-pos-right, mul-mod-left, mul-div-cancel, div-lt-iff-lt-mul}
+use native.Mathlib.Nat.{le-trans, le-of-eq, le-of-lt, lt-of-lt-of-le, lt-of-le-of-lt, not-le-of-lt, le-of-suc-le-suc}
+use native.Mathlib.Nat.{mul-le-mul-right, mul-lt-mul-of-pos-right, mul-mod-left, mul-div-cancel, div-lt-iff-lt-mul}
 use native.Mathlib.Omega.{arith}
 use lib.Dec.{T, leb, eqb, eqb·zero-suc, eqb·suc-zero, eqb·suc-suc, lit<, lit≤, le→leb, lt→ltb}
 use lib.IntN.{ℤ, pos, negsuc, negℤ, natAbs, _*ℤ_}
@@ -21,7 +22,7 @@ use Rattle.exact.proofs.Tests.{both-true, cond-is, same-test, le-leZ, lt-ltZ, b
 use Rattle.exact.proofs.Order.{≤ℤ-<ℤ-trans, mul-cancel-eq, pos-mono-lt}
 use Rattle.exact.proofs.Naturals.{whole-quotient}
 use Rattle.exact.proofs.Absolute.{natAbs-mul}
-use Rattle.part.specs.Nodes.{coordinate}
+use Rattle.record.specs.Nodes.{coordinate}
 use Rattle.view.specs.Floats.{signed, Equals}
 use Rattle.view.specs.Steps.{times64, wholeSteps, stepsOf, InSteps, Exactly}
 use Rattle.view.specs.declared.Steps.the-variants.{Whole, Refused}
@@ -55,7 +56,8 @@ module _ (s : Bool) (num den : ℕ) where
 
   refused : (num % den ≡ 0 → num ≤ 2047 * den → ⊥) → wholeSteps s num den ≡ Refused
   unfolding wholeSteps
-  refused never = rw (coordinate-is s (num / den)) (go (eqb (num % den) 0) (leb (num / den) 2047) (eqb-true (num % den) 0) (leb-true (num / den) 2047))
+  refused never =
+      rw (coordinate-is s (num / den)) (go (eqb (num % den) 0) (leb (num / den) 2047) (eqb-true (num % den) 0) (leb-true (num / den) 2047))
     where
       go : (p q : Bool) → (p ≡ true → num % den ≡ 0) → (q ≡ true → num / den ≤ 2047) → cond (p && q) (Whole (signed s (num / den))) Refused ≡ Refused
       go true true x y = let r = x refl in absurd (never r (le-trans (le-of-eq (whole-quotient num den r)) (mul-le-mul-right den (y refl))))
@@ -99,7 +101,10 @@ product (inf false) F = inr (refl, refl)
 product (fin s m e) F =
     elim (scaled s m e F) [
       | inl v ↦ inl (record { s = s; num = m * up e * 64; den = down e; den-pos = down-pos e; value = v; steps = refl })
-      | inr k ↦ inr (rw (k .0) (outside s), refused s (m * up e * 64) (down e) (λ r h. not-le-of-lt (past (m * up e * 64) (down e) (down-pos e) (k .1)) h))
+      | inr k ↦ inr (
+        rw (k .0) (outside s),
+        refused s (m * up e * 64) (down e) (λ r h. not-le-of-lt (past (m * up e * 64) (down e) (down-pos e) (k .1)) h),
+      )
     ]
 
 module _ (y : Float) (s : Bool) (num den : ℕ) (den-pos : 0 < den) (v : HasValue y s num den) where
@@ -127,7 +132,8 @@ module _ (y : Float) (s : Bool) (num den : ℕ) (den-pos : 0 < den) (v : HasValu
         let wide : 2047 * den < 2 ^ 63 * den = mul-lt-mul-of-pos-right (lit< tt) den-pos in
         let l : le (fin true 1 (pos 63)) y ≡ true =
         le-values (negℤ (pos (2 ^ 63))) (signed s num) 1 den (lit< tt) den-pos (fin true 1 (pos 63)) y refl is
-        ∙ rw (*ℤ-idr (signed s num), ← signed-times true (2 ^ 63) den) (le-leZ _ _ (bounded s num (2 ^ 63 * den) (le-trans few (le-of-lt wide)) .0)) in
+        ∙ rw (*ℤ-idr (signed s num), ← signed-times true (2 ^ 63) den)
+        (le-leZ _ _ (bounded s num (2 ^ 63 * den) (le-trans few (le-of-lt wide)) .0)) in
         let u : lt y (fin false 1 (pos 63)) ≡ true =
         lt-values (signed s num) (pos (2 ^ 63)) den 1 den-pos (lit< tt) y (fin false 1 (pos 63)) is refl
         ∙ rw (*ℤ-idr (signed s num)) (lt-ltZ _ _ (≤ℤ-<ℤ-trans (bounded s num (2047 * den) few .1) (pos-mono-lt wide))) in
@@ -222,7 +228,9 @@ module _ {x y : Float} (is : y ≡ times64 x) (r : Ranged x) where
   whole-no h = sym (p .steps ∙ refused (p .s) (p .num) (p .den) (λ z few. eqb-false (p .num % p .den) 0 (sym test ∙ h) z))
 
 pub cut-small : {x : Float} (r : Ranged x) → Small 2047 (cutOf r)
-cut-small r = record { abs = le-trans (le-of-eq (abs-signed (r .of .s) (r .of .num / r .of .den))) (below (r .of .num) (r .of .den) (r .of .den-pos) (r .few)) }
+cut-small r =
+    let p = r .of in
+    record { abs = le-trans (le-of-eq (abs-signed (p .s) (p .num / p .den))) (below (p .num) (p .den) (p .den-pos) (r .few)) }
 
 pub castable : (z : ℤ) → Small 2047 z → T (inFloat binary32 z)
 unfolding inFloat
@@ -257,7 +265,8 @@ module _ (s : Bool) (m : ℕ) (e n : ℤ) where
       let w : num ≡ natAbs n * down e = sym (abs-signed s num) ∙ ap natAbs (h .0) ∙ natAbs-mul n (pos (down e)) in
       let r : num % down e ≡ 0 = ap (λ (z : ℕ). z % down e) w ∙ mul-mod-left (natAbs n) (down e) in
       let q : num / down e ≡ natAbs n = ap (λ (z : ℕ). z / down e) w ∙ mul-div-cancel (natAbs n) (down-pos e) in
-      let is : signed s (natAbs n) ≡ n = mul-cancel-eq (pos-mono-lt (down-pos e)) (sym (signed-times s (natAbs n) (down e)) ∙ ap (signed s) (sym w) ∙ h .0) in
+      let is : signed s (natAbs n) ≡ n =
+      mul-cancel-eq (pos-mono-lt (down-pos e)) (sym (signed-times s (natAbs n) (down e)) ∙ ap (signed s) (sym w) ∙ h .0) in
       rw (eq-eqb (num % down e) 0 r, q, is, h .1)
 
 pub exactly : (x : Float) → Exactly x (stepsOf x)

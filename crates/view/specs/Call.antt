@@ -1,11 +1,13 @@
 -- The viewer's first hit (document 01, "Calls") as a function of the file's bytes, the ray and the budget: what it answers, by the first no of its
 -- questions.
 use mathlib.Core.List.{List, [], _∷_, _++_}
-use Prim.Native.Nat.{ℕ}
-use Rattle.part.specs.Questions.{Question, firstNo}
+use Prim.Native.Nat.{ℕ, _^_}
+use Rattle.record.specs.Questions.{Question, firstNo}
 use Rattle.part.specs.File.{fileQuestions}
-use Rattle.cast.specs.declared.HitAnswer.{HitAnswer}
-use Rattle.cast.specs.declared.HitAnswer.the-variants as found
+use Rattle.field.specs.Solid.{solidOf}
+use Rattle.halving.specs.declared.HitAnswer.{HitAnswer}
+use Rattle.halving.specs.declared.HitAnswer.the-variants as found
+use Rattle.cast.specs.Ticks.{exponent}
 use Rattle.cast.specs.Questions.{endsDiffer}
 use Rattle.cast.specs.Calls.{hitAfter}
 use Rattle.view.specs.Floats.{placeOf}
@@ -29,18 +31,18 @@ floatQuestions ray =
 unfoldable pub viewQuestions : List ℕ → ViewRay → List Question
 viewQuestions file ray = fileQuestions file ++ floatQuestions ray ++ (13, endsDiffer (stepsRay ray)) ∷ []
 
--- the viewer's values for each case of a first hit: "entry as a float equal to h/1024 exactly with the mark of tick h, or spent with the tick reached over
--- 1024, or refused with a number; unless refused, the probes come with it"
+-- the viewer's values for each case of a first hit: "entry as a float equal to h/1024 exactly with the mark of tick h, or spent with the tick reached
+-- over 1024, or refused with a number; unless refused, the probes come with it"
 unfoldable pub viewOf : ℕ → HitAnswer → ViewAnswer
 viewOf ticks (found.Refused number) = view.Refused number
 viewOf ticks (found.Hit tick mark probes) = view.Hit (placeOf ticks tick) mark probes
 viewOf ticks (found.Clear probes) = view.Clear probes
 viewOf ticks (found.Spent tick probes) = view.Spent (placeOf ticks tick) probes
 
--- the answer in ticks: a first hit's on the ray in steps, by the viewer's own questions
-unfoldable pub viewerTicks : List ℕ → ViewRay → ℕ → HitAnswer
-viewerTicks file ray budget = hitAfter (firstNo (viewQuestions file ray)) file (stepsRay ray) budget
+-- the answer in 2^k ticks: a first hit's on the ray in steps, by the viewer's own questions
+unfoldable pub viewerTicks : ℕ → List ℕ → ViewRay → ℕ → HitAnswer
+viewerTicks k file ray budget = hitAfter (firstNo (viewQuestions file ray)) (solidOf file) (stepsRay ray) k budget
 
 -- "Viewer's first hit"
 unfoldable pub viewerFirstHit : List ℕ → ViewRay → ℕ → ViewAnswer
-viewerFirstHit file ray budget = viewOf 1024 (viewerTicks file ray budget)
+viewerFirstHit file ray budget = viewOf (2 ^ exponent) (viewerTicks exponent file ray budget)

@@ -2,13 +2,13 @@
 use mathlib.Core.Path.{_≡_}
 use mathlib.Core.Logic.{_⊎_}
 use mathlib.Core.List.{List}
-use Prim.Native.Nat.{ℕ, _≤_}
+use Prim.Native.Nat.{ℕ, _^_, _≤_}
 use lib.IntN.{pos}
-use Rattle.field.specs.declared.Ray.{Ray}
-use Rattle.cast.specs.declared.HitAnswer.{HitAnswer}
-use Rattle.cast.specs.declared.HitAnswer.the-variants as found
-use Rattle.cast.specs.FirstHit.{hitLookedAt}
-use Rattle.cast.specs.Demands.{Sound, AloneHit, CountedHit}
+use Rattle.field.specs.Solid.{solidOf}
+use Rattle.halving.specs.declared.HitAnswer.{HitAnswer}
+use Rattle.halving.specs.declared.HitAnswer.the-variants as found
+use Rattle.halving.specs.FirstHit.{hitLookedAt}
+use Rattle.cast.specs.Demands.{Sound, AloneHit, CountedHit, SameOrder}
 use Rattle.view.specs.Floats.{Equals, tickAt}
 use Rattle.view.specs.Ray.{stepsRay}
 use Rattle.view.specs.Call.{viewerTicks}
@@ -30,17 +30,19 @@ ExactPlace ticks (view.Hit entry mark probes) = Equals entry (pos (tickAt ticks 
 ExactPlace ticks (view.Clear probes) = Unit {0}
 ExactPlace ticks (view.Spent place probes) = Equals place (pos (tickAt ticks place)) ticks
 
--- the probes are a first hit's. A refusal is 1 to 11, 13 or 15.
-unfoldable pub CountedView : List ℕ → Ray → ℕ → ViewAnswer → Type 0
-CountedView file ray budget (view.Refused number) = ((1 ≤ number) × (number ≤ 11)) ⊎ (number ≡ 13) ⊎ (number ≡ 15)
-CountedView file ray budget (view.Hit entry mark probes) = CountedHit file ray budget (inTicks 1024 (view.Hit entry mark probes))
-CountedView file ray budget (view.Clear probes) = CountedHit file ray budget (inTicks 1024 (view.Clear probes))
-CountedView file ray budget (view.Spent place probes) = CountedHit file ray budget (inTicks 1024 (view.Spent place probes))
+module _ (file : List ℕ) (ray : ViewRay) (k budget : ℕ) where
+  -- the probes are a first hit's. A refusal is 1 to 11, 13 or 15.
+  unfoldable pub CountedView : ViewAnswer → Type 0
+  CountedView (view.Refused number) = ((1 ≤ number) × (number ≤ 11)) ⊎ (number ≡ 13) ⊎ (number ≡ 15)
+  CountedView (view.Hit entry mark probes) = CountedHit (solidOf file) (stepsRay ray) k budget (inTicks (2 ^ k) (view.Hit entry mark probes))
+  CountedView (view.Clear probes) = CountedHit (solidOf file) (stepsRay ray) k budget (inTicks (2 ^ k) (view.Clear probes))
+  CountedView (view.Spent place probes) = CountedHit (solidOf file) (stepsRay ray) k budget (inTicks (2 ^ k) (view.Spent place probes))
 
--- what the call promises of its answer beside its equation
-pub record ViewDemands (file : List ℕ) (ray : ViewRay) (budget : ℕ) (answer : ViewAnswer) : Type 0 where
-  pub ticks : inTicks 1024 answer ≡ viewerTicks file ray budget
-  pub exact : ExactPlace 1024 answer
-  pub alone : AloneHit file (stepsRay ray) (inTicks 1024 answer)
-  pub counted : CountedView file (stepsRay ray) budget answer
-  pub sound : Sound file (stepsRay ray) (hitLookedAt 1024 (inTicks 1024 answer))
+  -- what the call promises of its answer beside its equation, with 2^k ticks
+  pub record ViewDemands (answer : ViewAnswer) : Type 0 where
+    pub ticks : inTicks (2 ^ k) answer ≡ viewerTicks k file ray budget
+    pub exact : ExactPlace (2 ^ k) answer
+    pub alone : AloneHit (solidOf file) (stepsRay ray) (2 ^ k) (inTicks (2 ^ k) answer)
+    pub counted : CountedView answer
+    pub order : SameOrder (solidOf file) (stepsRay ray) k budget (inTicks (2 ^ k) answer)
+    pub sound : Sound (solidOf file) (stepsRay ray) (2 ^ k) (hitLookedAt (2 ^ k) (inTicks (2 ^ k) answer))

@@ -3,3 +3,4 @@ pub mod Steps
 pub mod Ray
 pub mod Call
 pub mod Demands
+pub mod Numbers

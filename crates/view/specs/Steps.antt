@@ -5,7 +5,7 @@ use Prim.Native.Nat.{ℕ, _*_, _/_, _%_}
 use lib.Dec.{eqb}
 use lib.IntN.{ℤ, pos}
 use lib.Ieee.{Float, nan, inf, fin, binary32, up, down, mul}
-use Rattle.part.specs.Nodes.{coordinate}
+use Rattle.record.specs.Nodes.{coordinate}
 use Rattle.view.specs.Floats.{signed, Equals}
 use Rattle.view.specs.declared.Steps.{Steps}
 use Rattle.view.specs.declared.Steps.the-variants.{Whole, Refused}

@@ -1,15 +1,17 @@
 // The viewer's first hit: a ray of six floats in millimetres taken to whole steps, and a first hit's ticks given back as floats
 // (document 01, "Calls", question 15).
 
-use cast::HitAnswer;
+use cast::TICKS;
 use cast::first_hit;
 use field::Position;
 use field::Ray;
+use halving::HitAnswer;
 use part::Checked;
 use part::check;
 ghost use mathlib.Core.Path.{_≡_};
 ghost use Prim.Native.Nat.{_≤_, _<_};
-ghost use Rattle.cast.specs.FirstHit.{hitLookedAt};
+ghost use Rattle.halving.specs.FirstHit.{hitLookedAt};
+ghost use Rattle.cast.specs.Ticks.{exponent};
 ghost use Rattle.view.specs.Floats.{placeOf};
 ghost use Rattle.view.specs.Steps.{times64, stepsOf, Exactly};
 ghost use Rattle.view.specs.Ray.{endSteps, raySteps};
@@ -149,13 +151,13 @@ fn view_of(answer: HitAnswer, ticks: usize) -> ViewAnswer
 // viewer's.
 pub fn viewer_first_hit(file: &[u8], ray: ViewRay, budget: u32) -> ViewAnswer
     ensures answer { λ r. ⌜ r ≡ viewerFirstHit (now (file .entry)) ray budget ⌝ }
-    ensures demands { λ r. ⌜ ViewDemands (now (file .entry)) ray budget r ⌝ }
+    ensures demands { λ r. ⌜ ViewDemands (now (file .entry)) ray exponent budget r ⌝ }
 {
     match ray_in_steps(ray) {
-        RaySteps::Along(steps) => view_of(first_hit(file, steps, budget), 1024),
+        RaySteps::Along(steps) => view_of(first_hit(file, steps, budget), TICKS),
         RaySteps::Refused => match check(file) {
             Checked::Refused(number) => ViewAnswer::Refused(number),
-            Checked::Accepted { nodes: _, iso: _ } => ViewAnswer::Refused(15),
+            Checked::Accepted(_) => ViewAnswer::Refused(15),
         },
     }
 }

@@ -1,23 +1,25 @@
+-- `cast_column`: the cast is complete, so its probes are the ray's and the marks that are packed are all the ray's.
 use mathlib.Core.Path.{ap, _∙_}
 use mathlib.Core.List.{List, _++_, map}
 use Prim.Native.Nat.{ℕ}
 use lib.ListN.{drop}
 use borrow.Author.Needs.{needs}
-use Rattle.cast.specs.Column.{markBit, packed}
-use Rattle.cast.specs.Search.{stateIn}
-use Rattle.cast.proofs.Span.{all-probes, all-marks}
+use Rattle.cast.specs.Column.{columnBytes, markBit, packed}
+use Rattle.halving.specs.Search.{stateIn}
+use Rattle.cast.proofs.Columns.{all-probes, all-marks}
 use Rattle.cast.proofs.cast_column.Statement.{statement}
 use Rattle.cast.proofs.cast_column.Tie as tie
 
 returns : tie.Need-returns
 returns c =
-    let s = c .before .before .before .before .before .before .before .before .before .before in
+    let k = c .before .before .before .before .before .before .before in
+    let w = k .cast-ticks in
+    let s = k .before .before .before in
     let a = s .args in
-    let st = stateIn (a .prepared .now) (a .s) in
-    let w = c .before .before .before .before .before .before .before .cast-ticks in (
+    let st = stateIn (a .prepared .now) (a .s) in (
       c .probes-of .ensures ∙ all-probes st (s .pre .1 .0 .1) (s .pre .1 .0 .0) (w .result) (w .ensures .0),
       c .before .before .before .pack .ensures
-          ∙ ap (λ (ms : List ℕ). packed (map markBit ms) 128 ++ drop 128 (a .out .now))
+          ∙ ap (λ (ms : List ℕ). packed (map markBit ms) columnBytes ++ drop columnBytes (a .out .now))
           (all-marks st (s .pre .1 .0 .1) (s .pre .1 .0 .0) (w .result) (w .ensures .0) _ (w .ensures .1)),
     )
 

@@ -1,18 +1,25 @@
+-- `full_cast`: a refusal is the first no's, and an accepted ray is searched in the numbers that `load_buffer` left.
 use mathlib.Core.Path.{_≡_, refl, sym, _∙_}
 use lib.ListN.{length}
+use Prim.Native.Nat.{_^_}
+use native.Mathlib.Omega.{arith}
 use borrow.Author.Needs.{needs}
 use Rattle.part.specs.declared.Checked.the-variants.{Accepted}
+use Rattle.cast.specs.Ticks.{exponent}
 use Rattle.cast.specs.Questions.{checkHit, checkBuffer}
 use Rattle.cast.proofs.Calls.{whole, hit-accepted, room-enough, prepared-long, searchable, states-are, cast-refused, cast-made}
 use Rattle.cast.proofs.full_cast.Statement.{statement}
 use Rattle.cast.proofs.full_cast.Tie as tie
 
-buffer : (c : tie.After-checked2) → let a = c .before .before .before .before .before .before .args in
-    checkBuffer (a .file .now) (a .ray) 1024 (length (a .marks .now)) ≡ Accepted (c .checked2 .given .0 .0) (c .checked2 .given .0 .1 .0)
+-- from the branch of an accepted ray back to the start
+abbrev start : tie.After-checked2 → tie.Start
+start c = c .before .before .before .before .before .before
+
+buffer : (c : tie.After-checked2) → let a = start c .args in
+    checkBuffer (a .file .now) (a .ray) (2 ^ exponent) (length (a .marks .now)) ≡ Accepted (c .checked2 .given .0 .0)
 buffer c = sym (c .before .before .load-buffer .ensures .0) ∙ c .checked2 .given .1
 
-accepted : (c : tie.After-checked2) → let a = c .before .before .before .before .before .before .args in
-    checkHit (a .file .now) (a .ray) ≡ Accepted (c .checked2 .given .0 .0) (c .checked2 .given .0 .1 .0)
+accepted : (c : tie.After-checked2) → checkHit (start c .args .file .now) (start c .args .ray) ≡ Accepted (c .checked2 .given .0 .0)
 accepted c = hit-accepted _ _ _ _ (buffer c)
 
 pub full-cast-spec : {M : Type 1} → statement M
@@ -22,13 +29,15 @@ full-cast-spec =
     (λ c κs. search needs)
     (λ c. search needs)
     (λ c. search needs)
-    (λ c. prepared-long _ _ _ _ refl (c .before .before .before .before .before .load-buffer .ensures .1) (accepted (c .before .before .before)))
-    (λ c κs. let k = c .before .before .before in
-    (searchable _ _ _ _ refl (k .before .before .load-buffer .ensures .1) (accepted k) _, (whole, room-enough _ _ _ _ (buffer k))))
+    (λ c. let k = c .before .before .before in prepared-long _ _ _ _ refl (k .before .before .load-buffer .ensures .1) (accepted k))
+    (λ c κs. let k = c .before .before .before in (
+      searchable _ _ _ _ refl (k .before .before .load-buffer .ensures .1) (accepted k) _ _ (omega arith) (omega arith),
+      (whole exponent, room-enough _ _ _ _ (buffer k)),
+    ))
     (λ c. cast-refused _ _ _ _ (sym (c .before .before .before .load-buffer .ensures .0) ∙ c .before .checked .given .1))
     (λ c. search needs)
     (λ c.
     let k = c .before .before .before .before .before .before in
     let l = k .before .before .load-buffer in
     let w = c .before .before .cast-ticks in
-    cast-made _ _ _ _ _ _ (states-are _ _ _ _ refl (l .ensures .1) (accepted k) _) (buffer k) (w .ensures .0) (w .ensures .1)))
+    cast-made _ _ _ _ _ _ (states-are _ _ _ _ refl (l .ensures .1) (accepted k) _ _) (buffer k) (w .ensures .0) (w .ensures .1)))

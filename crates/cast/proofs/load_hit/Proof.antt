@@ -1,5 +1,5 @@
 use borrow.Author.Needs.{needs}
-use Rattle.field.specs.Loading.{checkRay}
+use Rattle.loading.specs.Loading.{checkRay}
 use Rattle.cast.specs.Questions.{hitQuestions, checkHit}
 use Rattle.cast.proofs.Questions.{also-asked}
 use Rattle.cast.proofs.load_hit.Statement.{statement}

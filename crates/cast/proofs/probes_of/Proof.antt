@@ -1,5 +1,5 @@
 use borrow.Author.Needs.{needs}
-use Rattle.cast.specs.Halving.{castProbes}
+use Rattle.halving.specs.Halving.{castProbes}
 use Rattle.cast.proofs.probes_of.Statement.{statement}
 use Rattle.cast.proofs.probes_of.Tie as tie
 

@@ -1,4 +1,6 @@
+use native.Mathlib.Omega.{arith}
 use borrow.Author.Needs.{needs}
+use Rattle.cast.specs.Ticks.{exponent}
 use Rattle.numbers.proofs.Numbers.{hosts-ray, column-number-fits}
 use Rattle.fenalukki.proofs.Host.{host-column}
 use Rattle.fenalukki.proofs.fenalukki_column.Statement.{statement}
@@ -10,6 +12,11 @@ fenalukki-column-spec =
     (tie.spec
     (λ c κs. search needs)
     (λ c κs. search needs)
-    (λ c κs. column-number-fits _ _ _ (c .before .before .column .ensures .1 .1 .counted))
+    (λ c κs. column-number-fits _ _ exponent (omega arith) _ (c .before .before .column .ensures .1 .1 .counted))
     (λ c. search needs)
-    (λ c. host-column _ (hosts-ray _ _ _ _ _ _ (search needs) (search needs) (search needs) (search needs) (search needs) (search needs) (c .before .before .before .before .before .ray-of .ensures)) _ _ _ (c .before .before .before .column .ensures) (c .column-number .ensures)))
+    (λ c.
+    let k = c .before .before .before in
+    let r = k .before .before in
+    let f = r .before .before .before .fits in
+    let same = hosts-ray _ _ _ _ _ _ (f .ax) (f .ay) (f .az) (f .bx) (f .by) (f .bz) (r .ray-of .ensures) in
+    host-column _ same _ _ _ (k .column .ensures) (c .column-number .ensures)))

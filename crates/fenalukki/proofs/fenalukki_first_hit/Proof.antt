@@ -1,4 +1,6 @@
+use native.Mathlib.Omega.{arith}
 use borrow.Author.Needs.{needs}
+use Rattle.cast.specs.Ticks.{exponent}
 use Rattle.numbers.proofs.Numbers.{hosts-ray, hit-number-fits}
 use Rattle.fenalukki.proofs.Host.{host-hit}
 use Rattle.fenalukki.proofs.fenalukki_first_hit.Statement.{statement}
@@ -10,5 +12,9 @@ fenalukki-first-hit-spec =
     (tie.spec
     (λ c κs. search needs)
     (λ c κs. search needs)
-    (λ c κs. hit-number-fits _ _ _ _ (c .first-hit .ensures .1 .alone) (c .first-hit .ensures .1 .counted))
-    (λ c. host-hit _ (hosts-ray _ _ _ _ _ _ (search needs) (search needs) (search needs) (search needs) (search needs) (search needs) (c .before .before .ray-of .ensures)) _ _ (c .before .first-hit .ensures) (c .hit-number .ensures)))
+    (λ c κs. hit-number-fits _ _ exponent (omega arith) _ _ (c .first-hit .ensures .1 .alone) (c .first-hit .ensures .1 .counted))
+    (λ c.
+    let r = c .before .before in
+    let f = r .before .before .fits in
+    let same = hosts-ray _ _ _ _ _ _ (f .ax) (f .ay) (f .az) (f .bx) (f .by) (f .bz) (r .ray-of .ensures) in
+    host-hit _ same _ _ (c .before .first-hit .ensures) (c .hit-number .ensures)))

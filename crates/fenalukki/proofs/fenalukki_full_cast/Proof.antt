@@ -1,4 +1,6 @@
+use native.Mathlib.Omega.{arith}
 use borrow.Author.Needs.{needs}
+use Rattle.cast.specs.Ticks.{exponent}
 use Rattle.numbers.proofs.Numbers.{hosts-ray, cast-number-fits}
 use Rattle.fenalukki.proofs.Host.{host-cast}
 use Rattle.fenalukki.proofs.fenalukki_full_cast.Statement.{statement}
@@ -10,6 +12,11 @@ fenalukki-full-cast-spec =
     (tie.spec
     (λ c κs. search needs)
     (λ c κs. search needs)
-    (λ c κs. cast-number-fits _ _ _ _ (c .before .before .full-cast .ensures .1 .1 .counted))
+    (λ c κs. cast-number-fits _ _ exponent (omega arith) _ _ (c .before .before .full-cast .ensures .1 .1 .counted))
     (λ c. search needs)
-    (λ c. host-cast _ (hosts-ray _ _ _ _ _ _ (search needs) (search needs) (search needs) (search needs) (search needs) (search needs) (c .before .before .before .before .before .ray-of .ensures)) _ _ _ _ (c .before .before .before .full-cast .ensures) (c .cast-number .ensures)))
+    (λ c.
+    let k = c .before .before .before in
+    let r = k .before .before in
+    let f = r .before .before .before .fits in
+    let same = hosts-ray _ _ _ _ _ _ (f .ax) (f .ay) (f .az) (f .bx) (f .by) (f .bz) (r .ray-of .ensures) in
+    host-cast _ same _ _ _ _ (k .full-cast .ensures) (c .cast-number .ensures)))

@@ -1,6 +1,6 @@
 use native.Mathlib.Omega.{arith}
 use borrow.Author.Needs.{needs}
-use Rattle.numbers.specs.Numbers.{castNumber}
+use Rattle.halving.specs.Numbers.{castNumber}
 use Rattle.numbers.proofs.cast_number.Statement.{statement}
 use Rattle.numbers.proofs.cast_number.Tie as tie
 

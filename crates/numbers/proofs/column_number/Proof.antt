@@ -1,6 +1,6 @@
 use native.Mathlib.Omega.{arith}
 use borrow.Author.Needs.{needs}
-use Rattle.numbers.specs.Numbers.{columnNumber}
+use Rattle.cast.specs.Column.{columnNumber}
 use Rattle.numbers.proofs.column_number.Statement.{statement}
 use Rattle.numbers.proofs.column_number.Tie as tie
 

@@ -1,7 +1,8 @@
+-- `hit_number`: the whole number fits 64 bits, so each of its parts does.
 use Prim.Native.Nat.{_+_, _*_, _^_, _<_}
 use native.Mathlib.Omega.{arith}
 use borrow.Author.Needs.{needs}
-use Rattle.numbers.specs.Numbers.{hitNumber}
+use Rattle.halving.specs.Numbers.{hitNumber}
 use Rattle.numbers.proofs.hit_number.Statement.{statement}
 use Rattle.numbers.proofs.hit_number.Tie as tie
 

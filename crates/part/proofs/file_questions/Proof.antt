@@ -1,9 +1,9 @@
 use native.Mathlib.Omega.{arith}
 use mathlib.Core.Path.{sym, _∙_}
 use borrow.Author.Needs.{needs}
-use Rattle.part.specs.Accepted.{Trailer}
+use Rattle.record.proofs.Questions.{next, firstNo-append}
 use Rattle.part.specs.File.{fileQuestions, records}
-use Rattle.part.proofs.Questions.{next, firstNo-append}
+use Rattle.part.specs.Accepted.{Trailer}
 use Rattle.part.proofs.Trailer.{trailer-facts, records-end}
 use Rattle.part.proofs.file_questions.Statement.{statement}
 use Rattle.part.proofs.file_questions.Tie as tie

@@ -1,24 +1,42 @@
 -- `records_questions`: what is left of the records, with the values held, is answered as the whole row is.
-use Prim.Native.Nat.{_+_, _*_, _≤_}
+use Prim.Native.Nat.{ℕ, _+_, _-_, _*_, _≤_}
 use native.Mathlib.Omega.{arith}
 use mathlib.Core.Path.{_≡_, sym, _∙_}
+use mathlib.Core.List.{List}
 use lib.ListN.{length}
 use borrow.Author.Needs.{needs}
-use Rattle.part.specs.Questions.{firstNo}
-use Rattle.part.specs.Nodes.{recordsQuestions}
-use Rattle.part.specs.File.{recordAt, recordsFrom}
-use Rattle.part.proofs.Questions.{next}
-use Rattle.part.proofs.Records.{records-step, ready}
+use Rattle.record.specs.Questions.{firstNo}
+use Rattle.record.specs.Nodes.{heldAfter}
+use Rattle.record.specs.Record.{recordAt}
+use Rattle.record.specs.declared.Verdict.{Verdict}
+use Rattle.record.proofs.Questions.{next}
+use Rattle.record.proofs.Ranges.{ready}
+use Rattle.part.specs.File.{recordsFrom, recordsQuestions}
+use Rattle.part.proofs.Records.{records-step}
 use Rattle.part.proofs.records_questions.Statement.{statement}
 use Rattle.part.proofs.records_questions.Tie as tie
 
+abbrev row : List ℕ → ℕ → ℕ → ℕ → Verdict
+row file left at held = firstNo (recordsQuestions (recordsFrom file left at) held)
+
 abbrev Inv-loop : tie.InvT-loop
-Inv-loop file n first left₀ at₀ held₀ left at held =
-    (at + 12 * left ≤ length file)
-    × (firstNo (recordsQuestions (recordsFrom file left at) held) ≡ firstNo (recordsQuestions (recordsFrom file n first) 0))
+Inv-loop file n first left₀ at₀ held₀ left at held = (at + 12 * left ≤ length file) × (row file left at held ≡ row file n first 0)
 
 abbrev μ-loop : tie.MeasureT-loop
 μ-loop file n first left₀ at₀ held₀ left at held = left
+
+-- the whole row, by the answer about the record at hand and by what is left after it
+step : (c : tie.After-record-questions Inv-loop μ-loop)
+    → (let b = c .before .before in
+    let l = b .before .loop in
+    let a = b .before .before .before .args in
+    row (a .file .now) (a .n) (a .first) 0
+    ≡ next (c .record-questions .result) (row (a .file .now) (l .left - 1) (l .at + 12) (heldAfter (c .before .node-at .result) (l .held))))
+step c =
+    let b = c .before .before in
+    let l = b .before .loop in
+    let s = records-step (b .before .before .before .args .file .now) (l .left) (l .at) (l .held) (b .loop-test .taken) in
+    rw (← l .inv .1, c .record-questions .ensures, c .before .node-at .ensures) s
 
 pub records-questions-spec : {M : Type 1} → statement M
 unfolding next recordAt recordsQuestions recordsFrom firstNo
@@ -31,27 +49,18 @@ records-questions-spec =
     (λ c κs. omega arith)
     (λ c κs. (omega arith, c .node-at .ensures))
     (λ c. search needs)
-    (λ c.
-    let r = c .before .before .before in
-    let l = r .before .before .before .loop in
-    let s = records-step (r .before .before .before .before .before .args .file .now) (l .left) (l .at) (l .held) (r .before .before .loop-test .taken) in
-    rw (← l .inv .1, s, ← r .record-questions .ensures, c .before .number .given .1))
+    (λ c. rw (step (c .before .before .before), c .before .number .given .1))
     (λ c. search needs)
     (λ c κs.
     let q = c .before .before in
-    let file = q .before .before .before .before .before .args .file .now in
-    let at = q .before .before .before .loop .at in
-    rw (q .before .node-at .ensures) (ready (recordAt file at) _ (sym (q .record-questions .ensures) ∙ c .enum-told .given .1)))
+    let b = q .before .before in
+    let file = b .before .before .before .args .file .now in
+    let all-yes = sym (q .record-questions .ensures) ∙ c .enum-told .given .1 in
+    rw (q .before .node-at .ensures) (ready (recordAt file (b .before .loop .at)) _ all-yes))
     (λ c. omega arith)
     (λ c. omega arith)
     (λ c. omega arith)
-    (λ c.
-    let r = c .before .before .before in
-    let l = r .before .before .before .loop in
-    let s = records-step (r .before .before .before .before .before .args .file .now) (l .left) (l .at) (l .held) (r .before .before .loop-test .taken) in (
-      omega arith,
-      rw (← l .inv .1, s, ← r .record-questions .ensures, c .before .enum-told .given .1, c .held-after .ensures, r .before .node-at .ensures),
-    ))
+    (λ c. (omega arith, rw (step (c .before .before .before), c .before .enum-told .given .1, c .held-after .ensures)))
     (λ c κs. search needs)
     (λ c.
     let l = c .before .before .loop in

@@ -5,7 +5,7 @@ use lib.ListN.{length}
 use borrow.Author.Needs.{needs}
 use borrow.Author.Tests.{not-true, not-false}
 use Rattle.exact.proofs.Tests.{between-true}
-use Rattle.part.specs.Questions.{firstNo}
+use Rattle.record.specs.Questions.{firstNo}
 use Rattle.part.specs.File.{trailerQuestions}
 use Rattle.part.proofs.trailer_questions.Statement.{statement}
 use Rattle.part.proofs.trailer_questions.Tie as tie
@@ -49,7 +49,9 @@ trailer-questions-spec =
     (λ c κs. search needs)
     (λ c κs. search needs)
     (λ c κs. search needs)
-    (λ c κs. omega (arith, long (c .before .before .before .before .before .before)))
+    (λ c κs.
+    let atDistance = c .before .before .before in
+    omega (arith, long (atDistance .before .before .before)))
     (λ c κs. search needs)
     (λ c κs. search needs)
     (λ c κs. search needs)

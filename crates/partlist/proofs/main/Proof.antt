@@ -1,7 +1,8 @@
-use native.Mathlib.Omega.{arith}
+-- `main`: an accepted file has at most 511 nodes.
 use mathlib.Core.Path.{sym, _∙_}
-use Rattle.part.proofs.Accepted.{accepted-file, accepted-numbers}
 use borrow.Author.Needs.{needs}
+use Rattle.part.proofs.Trailer.{count-high}
+use Rattle.part.proofs.Accepted.{accepted-file, accepted-summary}
 use Rattle.partlist.proofs.main.Statement.{statement}
 use Rattle.partlist.proofs.main.Tie as tie
 
@@ -19,14 +20,9 @@ main-spec =
     (λ c. search needs)
     (λ c κs. search needs)
     (λ c. search needs)
-    (λ c. search needs)
-    (λ c κs. search needs)
-    (λ c. search needs)
-    (λ c κs. search needs)
     (λ c κs.
-    let a = c .before .before .before .before .before .before in
+    let a = c .before .before in
     let e = sym (a .before .before .load .ensures .0) ∙ a .answer2 .given .1 in
-    let f = accepted-file _ e in
-    omega (arith, accepted-numbers _ e .0, f .counted, f .tree .few))
+    rw (accepted-summary _ e) (count-high (accepted-file _ e .trailer)))
     (λ c. search needs)
     (λ c. search needs))

@@ -1,5 +1,5 @@
 use borrow.Author.Needs.{needs}
-use Rattle.testhost.specs.Entries.{numberOf, NumberFits}
+use Rattle.totals.specs.Numbers.{numberOf, NumberFits}
 use Rattle.testhost.proofs.number_of.Statement.{statement}
 use Rattle.testhost.proofs.number_of.Tie as tie
 

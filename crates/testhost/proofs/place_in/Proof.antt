@@ -1,11 +1,11 @@
 use borrow.Author.Needs.{needs}
 use lib.Ieee.{ofBits}
-use Rattle.testhost.specs.Entries.{placeIn}
+use Rattle.view.specs.Numbers.{viewPlace}
 use Rattle.testhost.proofs.place_in.Statement.{statement}
 use Rattle.testhost.proofs.place_in.Tie as tie
 
 pub place-in-spec : {M : Type 1} → statement M
-unfolding placeIn ofBits
+unfolding viewPlace ofBits
 place-in-spec =
     tie.close
     (tie.spec

@@ -9,14 +9,13 @@ use Rattle.testhost.proofs.testhost_call.Statement.{statement}
 use Rattle.testhost.proofs.testhost_call.Tie as tie
 
 -- the call is on the host's ray
-same : (c : tie.After-perform-by-value) → let a = c .before .before .before .before .before .before .before .before .args in
-    c .before .before .before .before .call-of .result ≡ callOf (a .which) (rayOf (a .ax) (a .ay) (a .az) (a .bx) (a .by) (a .bz)) (a .budget)
+same : (c : tie.After-call-of) → let a = c .before .before .before .before .args in
+    c .call-of .result ≡ callOf (a .which) (rayOf (a .ax) (a .ay) (a .az) (a .bx) (a .by) (a .bz)) (a .budget)
 same c =
-    let b = c .before .before .before .before in
-    let a = b .before .before .before .before .args in
-    b .call-of .ensures ∙ ap (λ (ray : Ray). callOf (a .which) ray (a .budget))
+    let a = c .before .before .before .before .args in
+    c .call-of .ensures ∙ ap (λ (ray : Ray). callOf (a .which) ray (a .budget))
     (hosts-ray (a .ax) (a .ay) (a .az) (a .bx) (a .by) (a .bz)
-    (search needs) (search needs) (search needs) (search needs) (search needs) (search needs) (b .before .ray-of .ensures))
+    (search needs) (search needs) (search needs) (search needs) (search needs) (search needs) (c .before .ray-of .ensures))
 
 pub testhost-call-spec : {M : Type 1} → statement M
 testhost-call-spec =
@@ -31,5 +30,5 @@ testhost-call-spec =
     (λ c. search needs)
     (λ c.
     let b = c .before .before .before .before .before in
-    called _ _ (b .before .totals-in .ensures) (c .before .put-totals .ensures) _ _ _ (same b)
+    called _ _ (b .before .totals-in .ensures) (c .before .put-totals .ensures) _ _ _ (same (b .before .before .before .before))
     (b .perform-by-value .ensures .0) (b .perform-by-value .ensures .1) (c .number-of .ensures)))

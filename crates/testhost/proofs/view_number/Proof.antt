@@ -1,5 +1,5 @@
 use borrow.Author.Needs.{needs}
-use Rattle.testhost.specs.Entries.{viewNumber}
+use Rattle.view.specs.Numbers.{viewNumber}
 use Rattle.testhost.proofs.view_number.Statement.{statement}
 use Rattle.testhost.proofs.view_number.Tie as tie
 

@@ -1,6 +1,7 @@
--- A walk of the MIR. File, call and buffer go to `perform`, the buffer for good, the totals are counted up by `count_answer`, and the answer is the result.
--- Of both callees the walk has the contracts alone.
---     _0 the result    _1 file    _2 call    _3 buffer    _4 totals    _5 answer    _6, _7 the buffer, lent on    _8 the new totals    _9 the totals read
+-- A walk of the MIR. File, call and buffer go to `perform`, the buffer for good, the totals are counted up by `count_answer`, and the answer is the
+-- result. Of both callees the walk has the contracts alone.
+--     _0 the result    _1 file    _2 call    _3 buffer    _4 totals    _5 answer
+--     _6, _7 the buffer, lent on    _8 the new totals    _9 the totals read
 use mathlib.Core.Path.{refl}
 use Prim.Native.Nat.{ℕ}
 use mathlib.Core.List.{[], _∷_, List}
@@ -16,8 +17,10 @@ use prog.Wp.{Heap, Calls, Loops, WpFn, Tables}
 use ghost.Atoms.{Atoms}
 use contract.Monad.{Fun, fact}
 use contract.Running.{givenOf, tables, tablesOf}
-use types.Kit.{Given, Item, ‵, raw, some, later, _⊛_, ⋆, _$_, _∵_, !, qed, move, drop, use1, use2, split, join, pick, fsplit, fsplit3, fjoin, fjoin3, feqL, feqI, suffices, frame, await, done}
-use types.Run.{look, init, stop, hop, fld, from, load, addr, of-opd, and-then, no-more, assigns, land, returns, enter, alloc1, alloc0, params1, pass1, pass0, free0}
+use types.Kit.{Given, Item, !, ‵, raw, some, later, _⊛_, ⋆}
+use types.Kit.{_$_, _∵_, qed, move, drop, use1, use2, split, join, pick, fsplit, fsplit3, fjoin, fjoin3, feqL, feqI, suffices, frame, await, done}
+use types.Run.{look, init, stop, hop, fld, from, load, addr, of-opd, and-then, no-more}
+use types.Run.{assigns, land, returns, enter, alloc1, alloc0, params1, pass1, pass0, free0}
 use types.Part.{agg, whole, sub, look-in}
 use sound.WpLaws.{FmC, fmOf, WpFn-mono}
 use denote.RattleType.{owns}
@@ -36,14 +39,13 @@ use denote.Triple.Clauses.{Clauses, lasts}
 use denote.Triple.Table.{entered, cited}
 use denote.Triple.Walked.{Stays, stay-ref, stay-dropped, gave-slice, walkOf, goes-dropped, goes-gave-slice, goes-ref, ends-at, walked, walk-meets}
 use denote.Exit.{yes}
-use Rattle.totals.specs.declared.Totals.{Totals}
+use Rattle.tally.specs.declared.Totals.{Totals}
 use Rattle.totals.specs.declared.Call.{Call}
 use Rattle.totals.specs.declared.Answer.{Answer}
-use Rattle.totals.specs.Counts.{tallyOf}
-use Rattle.totals.specs.Calls.{Performed}
+use Rattle.totals.specs.Calls.{tallyOf, Performed}
 use Rattle.totals.proofs.Calls.{totals-after}
 use Rattle.totals.proofs.Lent.{Counter, counts, says-both, held, freed}
-use Rattle.totals.proofs.Totals as T
+use Rattle.tally.proofs.Totals as T
 use Rattle.totals.proofs.Call as K
 use Rattle.totals.proofs.Call.Laws as K′
 use Rattle.totals.proofs.Answer as R
@@ -163,7 +165,8 @@ module _ {M : Type 1} (𝓤 : URA M) (H : Heap 𝓤) (A : Atoms 𝓤) (W : Given
           -- the totals are counted up
           move ! (23 ∷ 24 ∷ 25 ∷ 3 ∷ 4 ∷ 5 ∷ 6 ∷ 11 ∷ 12 ∷ 13 ∷ 14 ∷ []) $
           counts ! fm R.the-row tallyOf counting (EL.makes R.the-type R′.the-plain 𝓤 H A) r w is refl refl h (p .ptr .0) (p .ptr .1) (λ h′ _ e′.
-          -- [obs; the borrow; the third token; _9; …; _8; …; _5; …; _4; …; what the answer owns; two tokens; the last list; _7; …; _6; …; _3; …; …; _0; …]
+          -- [obs; the borrow; the third token; _9; …; _8; …; _5; …; _4; …; what the answer owns; two tokens; the last list;
+          --  _7; …; _6; …; _3; …; …; _0; …]
           assigns ! (of-opd ! (held ! 7 refl)) (from ! (stop !)) (init ! 24 refl (answer-typed r _ is .0)) $
           returns ! (look ! 24 refl) $ freed ! 24 refl refl $ freed ! 22 refl refl $ freed ! 20 refl refl $ freed ! 18 refl refl $
           freed ! 9 refl refl $ freed ! 7 refl refl $ freed ! 12 refl refl $ freed ! 10 refl refl $ freed ! 5 refl refl $

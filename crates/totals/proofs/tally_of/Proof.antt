@@ -1,5 +1,5 @@
 use borrow.Author.Needs.{needs}
-use Rattle.totals.specs.Counts.{tallyOf}
+use Rattle.totals.specs.Calls.{tallyOf}
 use Rattle.totals.proofs.tally_of.Statement.{statement}
 use Rattle.totals.proofs.tally_of.Tie as tie
 

@@ -16,7 +16,8 @@ use prog.Wp.{Heap, Calls, Loops, WpFn, Tables}
 use ghost.Atoms.{Atoms}
 use contract.Monad.{Fun, fact}
 use contract.Running.{givenOf, tables, tablesOf}
-use types.Kit.{Given, Item, ‵, raw, some, later, _⊛_, ⋆, _$_, _∵_, !, qed, move, drop, use1, use2, split, join, pick, fsplit, fsplit3, fjoin, fjoin3, feqI, suffices, frame, await, done}
+use types.Kit.{Given, Item, !, ‵, raw, some, later, _⊛_, ⋆}
+use types.Kit.{_$_, _∵_, qed, move, drop, use1, use2, split, join, pick, fsplit, fsplit3, fjoin, fjoin3, feqI, suffices, frame, await, done}
 use types.Run.{look, init, stop, from, of-opd, and-then, no-more, assigns, land, returns, enter, alloc1, alloc0, params1, pass1, pass0, free0}
 use sound.WpLaws.{FmC, fmOf, WpFn-mono}
 use denote.RattleType.{owns}
@@ -36,14 +37,14 @@ use denote.Triple.Clauses.{Clauses, lasts}
 use denote.Triple.Table.{entered, cited}
 use denote.Triple.Walked.{Stays, stay-ref, stay-dropped, walkOf, goes-dropped, goes-ref, ends-at, walked, walk-meets}
 use denote.Exit.{yes}
-use Rattle.totals.specs.declared.Totals.{Totals}
-use Rattle.totals.specs.declared.ViewCall.{ViewCall}
 use Rattle.view.specs.declared.ViewAnswer.{ViewAnswer}
-use Rattle.totals.specs.Counts.{viewTally}
+use Rattle.tally.specs.declared.Totals.{Totals}
+use Rattle.tally.specs.Counts.{viewTally}
+use Rattle.totals.specs.declared.ViewCall.{ViewCall}
 use Rattle.totals.specs.Calls.{Viewed}
 use Rattle.totals.proofs.Calls.{totals-after-view}
 use Rattle.totals.proofs.Lent.{Counter, counts, says-both, held, freed}
-use Rattle.totals.proofs.Totals as T
+use Rattle.tally.proofs.Totals as T
 use Rattle.totals.proofs.ViewCall as K
 use Rattle.totals.proofs.ViewCall.Laws as K′
 use Rattle.view.proofs.ViewAnswer as R

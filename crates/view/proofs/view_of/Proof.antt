@@ -1,6 +1,6 @@
 use Prim.Native.Nat.{_+_, _≤_}
 use borrow.Author.Needs.{needs}
-use Rattle.cast.specs.FirstHit.{hitLookedAt}
+use Rattle.halving.specs.FirstHit.{hitLookedAt}
 use Rattle.view.specs.Call.{viewOf}
 use Rattle.view.proofs.view_of.Statement.{statement}
 use Rattle.view.proofs.view_of.Tie as tie

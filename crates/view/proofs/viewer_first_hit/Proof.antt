@@ -19,7 +19,7 @@ viewer-first-hit-spec =
     (λ c κs. search needs)
     (λ c. search needs)
     (λ c κs. search needs)
-    (λ c κs. let h = hit-within _ _ _ (c .first-hit .ensures .1 .alone) in search needs)
+    (λ c κs. let h = hit-within _ _ _ _ (c .first-hit .ensures .1 .alone) in search needs)
     (λ c. search needs)
     (λ c κs. search needs)
     (λ c. search needs)
@@ -28,5 +28,7 @@ viewer-first-hit-spec =
     let b = c .before .before .before in
     let k = ray-whole _ (sym (b .before .before .ray-in-steps .ensures) ∙ b .steps .given .1) in
     view-promised _ _ _ (c .view-of .ensures ∙ rw (c .before .first-hit .ensures .0, k .1) (sym (view-found _ _ _ (k .0)))))
-    (λ c. let b = c .before .before .before in view-promised _ _ _ (sym (view-refused _ _ _ (fraction b) (sym (b .check .ensures) ∙ c .before .number .given .1))))
-    (λ c. let b = c .before .before in view-promised _ _ _ (sym (view-15 _ _ _ (fraction b) (sym (b .check .ensures) ∙ c .enum-told2 .given .1)))))
+    (λ c.
+    let b = c .before .before .before in
+    view-promised _ _ _ (sym (view-refused _ _ _ (fraction b) (sym (b .check .ensures .0) ∙ c .before .number .given .1))))
+    (λ c. let b = c .before .before in view-promised _ _ _ (sym (view-15 _ _ _ (fraction b) (sym (b .check .ensures .0) ∙ c .enum-told2 .given .1)))))

@@ -1,0 +1,4 @@
+pub mod Sizes
+pub mod Serving
+pub mod Stack
+pub mod Places

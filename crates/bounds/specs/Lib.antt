@@ -1,0 +1,2 @@
+pub mod Probe
+pub mod Place

@@ -1,0 +1,3 @@
+pub mod Files
+pub mod Rays
+pub mod Floats

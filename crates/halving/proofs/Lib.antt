@@ -1,0 +1,4 @@
+pub mod Halving
+pub mod FirstHit
+pub mod SameOrder
+pub mod Span

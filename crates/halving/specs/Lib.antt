@@ -1,0 +1,4 @@
+pub mod Halving
+pub mod FirstHit
+pub mod Search
+pub mod Numbers

@@ -1,0 +1,3 @@
+pub mod Offsets
+pub mod Lists
+pub mod Loading

@@ -1,0 +1,168 @@
+// A record of the part file: the numbers in its bytes, its node, and the questions about it (document 01, "The part file"; questions 6 to 10).
+
+use exact::both;
+use exact::is_between_signed;
+use exact::wide;
+ghost use mathlib.Core.Path.{_≡_};
+ghost use Prim.Native.Nat.{_+_, _≤_, _<_};
+ghost use mathlib.Core.Bool.{cond};
+ghost use lib.ListN.{length};
+ghost use Rattle.record.specs.Bytes.{u16, u32, i16, zeros};
+ghost use Rattle.record.specs.Questions.{firstNo};
+ghost use Rattle.record.specs.Nodes.{isPoint, coordinate, inRange, heldAfter};
+ghost use Rattle.record.specs.Record.{nodeAt, zeroBytes, recordAt, nodeQuestions, recordQuestions};
+ghost use Rattle.record.specs.Ranges.{Ready};
+
+// What a list of questions is answered: yes to all, or the number of the first no.
+pub enum Verdict {
+    Yes,
+    No(u32),
+}
+
+// A node of the tree: the six numbers of a record.
+pub struct Node {
+    pub kind: i32,
+    pub radius: i32,
+    pub x: i32,
+    pub y: i32,
+    pub z: i32,
+    pub weight: i32,
+}
+
+// ---- numbers in the bytes, little-endian
+
+pub fn u16_at(file: &[u8], at: usize) -> usize
+    requires { ⌜ at + 2 ≤ length (now file) ⌝ }
+    ensures { λ r. ⌜ (r ≡ u16 (now (file .entry)) at) × (r < 65536) ⌝ }
+{
+    wide(file[at]) + 256 * wide(file[at + 1])
+}
+
+pub fn u32_at(file: &[u8], at: usize) -> usize
+    requires { ⌜ at + 4 ≤ length (now file) ⌝ }
+    ensures { λ r. ⌜ r ≡ u32 (now (file .entry)) at ⌝ }
+{
+    u16_at(file, at) + 65536 * u16_at(file, at + 2)
+}
+
+pub fn i16_at(file: &[u8], at: usize) -> i32
+    requires { ⌜ at + 2 ≤ length (now file) ⌝ }
+    ensures { λ r. ⌜ r ≡ i16 (now (file .entry)) at ⌝ }
+{
+    let n = u16_at(file, at);
+    if n < 32768 {
+        n as i32
+    } else {
+        n as i32 - 65536
+    }
+}
+
+// Are n bytes zero, from a place on?
+fn are_zero(file: &[u8], at: usize, n: usize) -> bool
+    requires { ⌜ at + n ≤ length (now file) ⌝ }
+    ensures { λ r. ⌜ r ≡ zeros (now (file .entry)) at n ⌝ }
+{
+    let mut left = n;
+    let mut i = at;
+    while 0 < left {
+        if file[i] != 0 {
+            return false;
+        }
+        i += 1;
+        left -= 1;
+    }
+    true
+}
+
+// ---- questions
+
+// A question before later ones, which are answered already.
+pub fn ask(number: u32, yes: bool, later: Verdict) -> Verdict
+    ensures { λ r. ⌜ r ≡ cond yes later (Verdict.No number) ⌝ }
+{
+    if yes { later } else { Verdict::No(number) }
+}
+
+// ---- a record
+
+// The node of the record at a place.
+pub fn node_at(file: &[u8], at: usize) -> Node
+    requires { ⌜ at + 12 ≤ length (now file) ⌝ }
+    ensures { λ r. ⌜ r ≡ nodeAt (now (file .entry)) at ⌝ }
+{
+    Node {
+        kind: wide(file[at]) as i32,
+        radius: u16_at(file, at + 2) as i32,
+        x: i16_at(file, at + 4),
+        y: i16_at(file, at + 6),
+        z: i16_at(file, at + 8),
+        weight: i16_at(file, at + 10),
+    }
+}
+
+fn is_point(n: Node) -> bool
+    ensures { λ r. ⌜ r ≡ isPoint n ⌝ }
+{
+    n.kind == 1
+}
+
+// Is a coordinate -2047 to 2047?
+pub fn is_coordinate(z: i32) -> bool
+    ensures { λ r. ⌜ r ≡ coordinate z ⌝ }
+{
+    is_between_signed(-2047, 2047, z)
+}
+
+// Are a point's numbers in their ranges?
+fn in_range(n: Node) -> bool
+    ensures { λ r. ⌜ r ≡ inRange n ⌝ }
+{
+    let r = is_between_signed(1, 1024, n.radius);
+    let x = is_coordinate(n.x);
+    let y = is_coordinate(n.y);
+    let z = is_coordinate(n.z);
+    let w = is_between_signed(-4096, 4096, n.weight);
+    both(both(both(both(r, x), y), z), w)
+}
+
+// Are the zero bytes of the record at a place zero?
+fn is_zeroed(file: &[u8], at: usize, node: Node) -> bool
+    requires { ⌜ at + 12 ≤ length (now file) ⌝ }
+    ensures { λ r. ⌜ r ≡ zeros (now (file .entry)) (at + 1) (zeroBytes node) ⌝ }
+{
+    if is_point(node) {
+        are_zero(file, at + 1, 1)
+    } else {
+        are_zero(file, at + 1, 11)
+    }
+}
+
+// Questions 8 to 10 about a node. Of these, 9 asks nothing of a point, and 8 and 10 nothing of an operator.
+fn node_questions(node: Node, held: usize) -> Verdict
+    ensures { λ r. ⌜ r ≡ firstNo (nodeQuestions node held) ⌝ }
+{
+    if is_point(node) {
+        ask(8, in_range(node), ask(10, held < 64, Verdict::Yes))
+    } else {
+        ask(9, 2 <= held, Verdict::Yes)
+    }
+}
+
+// Questions 6 to 10 about the record at a place, whose node is given.
+pub fn record_questions(file: &[u8], at: usize, node: Node, held: usize) -> Verdict
+    requires { ⌜ at + 12 ≤ length (now file) ⌝ }
+    requires { ⌜ node ≡ nodeAt (now file) at ⌝ }
+    ensures { λ r. ⌜ r ≡ firstNo (recordQuestions (recordAt (now (file .entry)) at) held) ⌝ }
+{
+    let known = is_between_signed(1, 3, node.kind);
+    let zeroed = is_zeroed(file, at, node);
+    ask(6, known, ask(7, zeroed, node_questions(node, held)))
+}
+
+// The values held after a node that found what it needs.
+pub fn held_after(node: Node, held: usize) -> usize
+    requires { ⌜ Ready node held ⌝ }
+    ensures { λ r. ⌜ r ≡ heldAfter node held ⌝ }
+{
+    if is_point(node) { held + 1 } else { held - 1 }
+}
