@@ -85,9 +85,11 @@ fn every_path_in_a_document_is_there() {
     let documents = [
         "README.md",
         "docs/BENCHMARKS.md",
+        "docs/CHANGING.md",
         "docs/DECISIONS.md",
         "docs/DEMANDS.md",
         "docs/EVIDENCE.md",
+        "docs/GLOSSARY.md",
         "docs/PROOFS.md",
         "docs/ROBUSTNESS.md",
     ];
@@ -98,9 +100,38 @@ fn every_path_in_a_document_is_there() {
 #[test]
 fn every_name_in_a_document_is_in_the_crates() {
     let text = all_text(&root().join("crates"));
-    let documents = ["docs/DEMANDS.md", "docs/PROOFS.md"].map(read).concat();
+    let documents = [
+        "docs/CHANGING.md",
+        "docs/DEMANDS.md",
+        "docs/GLOSSARY.md",
+        "docs/PROOFS.md",
+    ];
+    let documents = documents.map(read).concat();
     let words = quoted(&documents).flat_map(|quote| quote.split([' ', ':']));
     for word in words.filter(|word| !word.is_empty() && !word.contains('/')) {
         assert!(has_word(&text, word), "{word}");
+    }
+}
+
+/// The files of a folder, and of those below it, that hold code, definitions or proofs.
+fn sources(folder: &Path) -> Vec<PathBuf> {
+    let entries = fs::read_dir(folder).expect("a folder");
+    let below = |path: PathBuf| match path.is_dir() {
+        true => sources(&path),
+        false => vec![path],
+    };
+    let files = entries.flat_map(|e| below(e.expect("an entry").path()));
+    let known = |path: &PathBuf| path.extension().is_some_and(|e| e == "rt" || e == "antt");
+    files.filter(known).collect()
+}
+
+#[test]
+fn no_line_of_the_crates_is_longer_than_150_characters() {
+    let files = sources(&root().join("crates"));
+    assert!(files.len() > 100);
+    for file in files {
+        let text = fs::read_to_string(&file).expect("a text");
+        let longest = text.lines().map(|line| line.chars().count()).max();
+        assert!(longest.unwrap_or(0) <= 150, "{}", file.display());
     }
 }
