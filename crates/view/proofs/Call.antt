@@ -110,18 +110,18 @@ module _ (file : List ℕ) (ray : ViewRay) where
     -- ---- the answer in ticks
 
     -- floats that are whole steps: a first hit's
-    pub view-found : rayWhole ray ≡ true → viewerFirstHit file ray budget ≡ viewOf (2 ^ exponent) (firstHit file steps budget)
-    unfolding viewerFirstHit viewerTicks firstHit
-    view-found w = rw (view-verdict, hit-verdict, w)
+    pub ticks-found : rayWhole ray ≡ true → viewerTicks exponent file ray budget ≡ firstHit file steps budget
+    unfolding viewerTicks firstHit
+    ticks-found w = rw (view-verdict, hit-verdict, w)
 
     -- floats that are not: the file's refusal, or 15
-    pub view-refused : rayWhole ray ≡ false → {n : ℕ} → checkFile file ≡ Refused n → viewerFirstHit file ray budget ≡ view.Refused n
-    unfolding viewerFirstHit viewerTicks hitAfter viewOf checkFile next
-    view-refused w e = rw (view-verdict, w, answer-refused (firstNo (fileQuestions file)) file e)
+    pub ticks-refused : rayWhole ray ≡ false → {n : ℕ} → checkFile file ≡ Refused n → viewerTicks exponent file ray budget ≡ found.Refused n
+    unfolding viewerTicks hitAfter checkFile next
+    ticks-refused w e = rw (view-verdict, w, answer-refused (firstNo (fileQuestions file)) file e)
 
-    pub view-15 : rayWhole ray ≡ false → {part : Summary} → checkFile file ≡ Accepted part → viewerFirstHit file ray budget ≡ view.Refused 15
-    unfolding viewerFirstHit viewerTicks hitAfter viewOf checkFile next
-    view-15 w e = rw (view-verdict, w, answer-accepted (firstNo (fileQuestions file)) file e)
+    pub ticks-15 : rayWhole ray ≡ false → {part : Summary} → checkFile file ≡ Accepted part → viewerTicks exponent file ray budget ≡ found.Refused 15
+    unfolding viewerTicks hitAfter checkFile next
+    ticks-15 w e = rw (view-verdict, w, answer-accepted (firstNo (fileQuestions file)) file e)
 
   -- ---- demands 2 and 3, and the exact places, with 2^k ticks
 
@@ -173,7 +173,17 @@ module _ (file : List ℕ) (ray : ViewRay) where
           sound = rw back (d .sound);
         }
 
-  pub view-promised : (budget : ℕ) {a : ViewAnswer} → a ≡ viewerFirstHit file ray budget
-      → (a ≡ viewerFirstHit file ray budget) × ViewDemands file ray exponent budget a
-  unfolding viewerFirstHit
-  view-promised budget e = (e, rw e (view-demands exponent budget (lit≤ tt)))
+  -- ---- the call, in ticks and with its places
+
+  module _ (budget : ℕ) where
+    pub ticks-promised : {a : HitAnswer} → a ≡ viewerTicks exponent file ray budget
+        → (a ≡ viewerTicks exponent file ray budget) × ViewDemands file ray exponent budget (viewOf (2 ^ exponent) a)
+    ticks-promised e = (e, rw e (view-demands exponent budget (lit≤ tt)))
+
+    pub ticks-within : {a : HitAnswer} → a ≡ viewerTicks exponent file ray budget → hitLookedAt (2 ^ exponent) a ≤ 2 ^ exponent
+    ticks-within e = rw e (hit-within (solidOf file) steps (2 ^ exponent) _ (ticks-demands exponent budget .alone))
+
+    pub view-promised : {a : ViewAnswer} → a ≡ viewerFirstHit file ray budget
+        → (a ≡ viewerFirstHit file ray budget) × ViewDemands file ray exponent budget a
+    unfolding viewerFirstHit
+    view-promised e = (e, rw e (view-demands exponent budget (lit≤ tt)))

@@ -9,13 +9,13 @@ use halving::HitAnswer;
 use part::Checked;
 use part::check;
 ghost use mathlib.Core.Path.{_≡_};
-ghost use Prim.Native.Nat.{_≤_, _<_};
+ghost use Prim.Native.Nat.{_^_, _≤_, _<_};
 ghost use Rattle.halving.specs.FirstHit.{hitLookedAt};
 ghost use Rattle.cast.specs.Ticks.{exponent};
 ghost use Rattle.view.specs.Floats.{placeOf};
 ghost use Rattle.view.specs.Steps.{times64, stepsOf, Exactly};
 ghost use Rattle.view.specs.Ray.{endSteps, raySteps};
-ghost use Rattle.view.specs.Call.{viewOf, viewerFirstHit};
+ghost use Rattle.view.specs.Call.{viewOf, viewerTicks, viewerFirstHit};
 ghost use Rattle.view.specs.Demands.{ViewDemands};
 
 // An end of the viewer's ray, in millimetres.
@@ -147,17 +147,25 @@ fn view_of(answer: HitAnswer, ticks: usize) -> ViewAnswer
 
 // ---- the call
 
-// Viewer's first hit. Whole steps are in question 12's range, so a first hit answers 12 with yes and its other questions are the
-// viewer's.
+// Viewer's first hit in ticks. Whole steps are in question 12's range, so a first hit answers 12 with yes and its other questions
+// are the viewer's.
+pub fn viewer_ticks(file: &[u8], ray: ViewRay, budget: u32) -> HitAnswer
+    ensures answer { λ r. ⌜ r ≡ viewerTicks exponent (now (file .entry)) ray budget ⌝ }
+    ensures demands { λ r. ⌜ ViewDemands (now (file .entry)) ray exponent budget (viewOf (2 ^ exponent) r) ⌝ }
+{
+    match ray_in_steps(ray) {
+        RaySteps::Along(steps) => first_hit(file, steps, budget),
+        RaySteps::Refused => match check(file) {
+            Checked::Refused(number) => HitAnswer::Refused(number),
+            Checked::Accepted(_) => HitAnswer::Refused(15),
+        },
+    }
+}
+
+// Viewer's first hit.
 pub fn viewer_first_hit(file: &[u8], ray: ViewRay, budget: u32) -> ViewAnswer
     ensures answer { λ r. ⌜ r ≡ viewerFirstHit (now (file .entry)) ray budget ⌝ }
     ensures demands { λ r. ⌜ ViewDemands (now (file .entry)) ray exponent budget r ⌝ }
 {
-    match ray_in_steps(ray) {
-        RaySteps::Along(steps) => view_of(first_hit(file, steps, budget), TICKS),
-        RaySteps::Refused => match check(file) {
-            Checked::Refused(number) => ViewAnswer::Refused(number),
-            Checked::Accepted(_) => ViewAnswer::Refused(15),
-        },
-    }
+    view_of(viewer_ticks(file, ray, budget), TICKS)
 }
