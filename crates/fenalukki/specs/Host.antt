@@ -1,16 +1,24 @@
--- What the slicing host gets from each call (document 01, "Calls"): its number, the lent buffer afterwards, and demands 2 and 3 of the answer that
--- the number stands for.
+-- What a host in C gets from each call (document 01, "Calls"): its number, what was lent afterwards, and all that the call promises of the answer that
+-- the number stands for, demands 2 and 3 included.
 use mathlib.Core.Path.{_≡_}
 use mathlib.Core.List.{List}
 use Prim.Native.Nat.{ℕ}
 use lib.ListN.{length}
+use lib.IntN.{ℤ}
+use Rattle.part.specs.File.{checkFile, Says}
+use Rattle.field.specs.declared.Position.{Position}
 use Rattle.field.specs.declared.Ray.{Ray}
 use Rattle.field.specs.Solid.{solidOf}
+use Rattle.bounds.specs.Place.{placeBounds, PlaceSays}
 use Rattle.cast.specs.Ticks.{exponent}
 use Rattle.cast.specs.Calls.{fullCast, marksLeft, firstHit, columnAnswer, bitsLeft}
 use Rattle.halving.specs.Numbers.{castNumber, hitNumber}
 use Rattle.cast.specs.Column.{columnNumber}
 use Rattle.cast.specs.Demands.{CastDemands, HitDemands, ColumnDemands}
+use Rattle.view.specs.declared.ViewRay.{ViewRay}
+use Rattle.view.specs.Call.{viewerTicks, viewerFirstHit}
+use Rattle.view.specs.Demands.{ViewDemands}
+use Rattle.numbers.specs.Numbers.{Told, checkNumber, boundsNumber, boundsLeft}
 
 -- a full cast's number, and the bytes afterwards in the buffer that was lent
 pub record HostCast (file : List ℕ) (ray : Ray) (budget : ℕ) (lent : List ℕ) (number : ℕ) (after : List ℕ) : Type 0 where
@@ -28,3 +36,21 @@ pub record HostColumn (file : List ℕ) (ray : Ray) (lent : List ℕ) (number : 
   pub number-is : number ≡ columnNumber (columnAnswer file ray (length lent))
   pub bytes : after ≡ bitsLeft file ray lent
   pub demands : ColumnDemands (solidOf file) ray exponent (columnAnswer file ray (length lent)) after
+
+-- a check's number
+pub record HostCheck (file : List ℕ) (number : ℕ) : Type 0 where
+  pub number-is : number ≡ checkNumber (checkFile file)
+  pub told : Told 11 number
+  pub says : Says file (checkFile file)
+
+-- the number of the bounds at a place, and the two that were lent afterwards
+pub record HostBounds (file : List ℕ) (place : Position) (lent : List ℤ) (number : ℕ) (after : List ℤ) : Type 0 where
+  pub number-is : number ≡ boundsNumber (placeBounds file place)
+  pub bounds : after ≡ boundsLeft (placeBounds file place) lent
+  pub told : Told 12 number
+  pub says : PlaceSays file place (placeBounds file place)
+
+-- a viewer's first hit's number: a first hit's, of the answer in ticks, each of whose places is its tick over 1,024 exactly
+pub record HostView (file : List ℕ) (ray : ViewRay) (budget number : ℕ) : Type 0 where
+  pub number-is : number ≡ hitNumber (viewerTicks exponent file ray budget)
+  pub demands : ViewDemands file ray exponent budget (viewerFirstHit file ray budget)

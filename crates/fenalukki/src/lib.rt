@@ -1,15 +1,31 @@
-// The slicing host's entries: C functions on a part file's bytes, numbers and a lent buffer (document 01, "Calls").
-// include/fenalukki.h is what a C program includes.
+// The entries for hosts in C: functions on a part file's bytes, numbers and lent buffers (document 01, "Calls"). The slicing host's
+// three come first, which are lent no totals. include/fenalukki.h is what a C program includes.
 
+use bounds::place_bounds;
 use cast::column;
 use cast::first_hit;
 use cast::full_cast;
+use field::Position;
+use numbers::bounds_number;
 use numbers::cast_number;
+use numbers::check_number;
 use numbers::column_number;
+use numbers::count_lent;
 use numbers::hit_number;
 use numbers::ray_of;
-ghost use Rattle.numbers.specs.Numbers.{rayOf};
-ghost use Rattle.fenalukki.specs.Host.{HostCast, HostHit, HostColumn};
+use numbers::view_ray_of;
+use part::check;
+use tally::cast_tally;
+use tally::column_tally;
+use tally::hit_tally;
+use view::viewer_ticks;
+ghost use mathlib.Core.Path.{_≡_};
+ghost use lib.ListN.{length};
+ghost use Rattle.cast.specs.Calls.{fullCast, firstHit, columnAnswer};
+ghost use Rattle.view.specs.Call.{viewerFirstHit};
+ghost use Rattle.tally.specs.Counts.{castTally, hitTally, columnTally, viewTally};
+ghost use Rattle.numbers.specs.Numbers.{placeOf, rayOf, viewRayOf, lentAfter};
+ghost use Rattle.fenalukki.specs.Host.{HostCast, HostHit, HostColumn, HostCheck, HostBounds, HostView};
 
 // Full cast: 1,024 mark bytes, as far as the budget goes.
 #[no_mangle]
@@ -61,4 +77,132 @@ pub extern "C" fn fenalukki_column(
     ensures { λ r. ⌜ HostColumn (now (file .entry)) (rayOf ax ay az bx by bz) (now (bits .entry)) r (now (bits .exit)) ⌝ }
 {
     column_number(column(file, ray_of(ax, ay, az, bx, by, bz), bits))
+}
+
+// ---- beside these
+
+// The check of a file: its node count and iso-value.
+#[no_mangle]
+pub extern "C" fn fenalukki_check(file: &[u8]) -> u64
+    ensures { λ r. ⌜ HostCheck (now (file .entry)) r ⌝ }
+{
+    check_number(check(file))
+}
+
+// The bounds at one whole-step place.
+#[no_mangle]
+pub extern "C" fn fenalukki_place_bounds(
+    file: &[u8],
+    x: i32,
+    y: i32,
+    z: i32,
+    bounds: &mut [i64; 2],
+) -> u32
+    ensures { λ r. ⌜ HostBounds (now (file .entry)) (placeOf x y z) (now (bounds .entry)) r (now (bounds .exit)) ⌝ }
+{
+    bounds_number(place_bounds(file, Position { x: x, y: y, z: z }), bounds)
+}
+
+// Viewer's first hit, in ticks.
+#[no_mangle]
+pub extern "C" fn fenalukki_viewer_first_hit(
+    file: &[u8],
+    ax: f32,
+    ay: f32,
+    az: f32,
+    bx: f32,
+    by: f32,
+    bz: f32,
+    budget: u32,
+) -> u64
+    ensures { λ r. ⌜ HostView (now (file .entry)) (viewRayOf ax ay az bx by bz) budget r ⌝ }
+{
+    hit_number(viewer_ticks(file, view_ray_of(ax, ay, az, bx, by, bz), budget))
+}
+
+// ---- the casting calls, lent the running totals
+
+#[no_mangle]
+pub extern "C" fn fenalukki_full_cast_counted(
+    file: &[u8],
+    ax: i32,
+    ay: i32,
+    az: i32,
+    bx: i32,
+    by: i32,
+    bz: i32,
+    budget: u32,
+    marks: &mut [u8],
+    totals: &mut [u32; 3],
+) -> u32
+    ensures called { λ r. ⌜ HostCast (now (file .entry)) (rayOf ax ay az bx by bz) budget (now (marks .entry)) r (now (marks .exit)) ⌝ }
+    ensures counted { λ _. ⌜ now (totals .exit) ≡ lentAfter
+        (castTally (fullCast (now (file .entry)) (rayOf ax ay az bx by bz) budget (length (now (marks .entry))))) (now (totals .entry)) ⌝ }
+{
+    let answer = full_cast(file, ray_of(ax, ay, az, bx, by, bz), budget, marks);
+    count_lent(cast_tally(answer), totals);
+    cast_number(answer)
+}
+
+#[no_mangle]
+pub extern "C" fn fenalukki_first_hit_counted(
+    file: &[u8],
+    ax: i32,
+    ay: i32,
+    az: i32,
+    bx: i32,
+    by: i32,
+    bz: i32,
+    budget: u32,
+    totals: &mut [u32; 3],
+) -> u64
+    ensures called { λ r. ⌜ HostHit (now (file .entry)) (rayOf ax ay az bx by bz) budget r ⌝ }
+    ensures counted { λ _. ⌜ now (totals .exit) ≡ lentAfter
+        (hitTally (firstHit (now (file .entry)) (rayOf ax ay az bx by bz) budget)) (now (totals .entry)) ⌝ }
+{
+    let answer = first_hit(file, ray_of(ax, ay, az, bx, by, bz), budget);
+    count_lent(hit_tally(answer), totals);
+    hit_number(answer)
+}
+
+#[no_mangle]
+pub extern "C" fn fenalukki_column_counted(
+    file: &[u8],
+    ax: i32,
+    ay: i32,
+    az: i32,
+    bx: i32,
+    by: i32,
+    bz: i32,
+    bits: &mut [u8],
+    totals: &mut [u32; 3],
+) -> u32
+    ensures called { λ r. ⌜ HostColumn (now (file .entry)) (rayOf ax ay az bx by bz) (now (bits .entry)) r (now (bits .exit)) ⌝ }
+    ensures counted { λ _. ⌜ now (totals .exit) ≡ lentAfter
+        (columnTally (columnAnswer (now (file .entry)) (rayOf ax ay az bx by bz) (length (now (bits .entry))))) (now (totals .entry)) ⌝ }
+{
+    let answer = column(file, ray_of(ax, ay, az, bx, by, bz), bits);
+    count_lent(column_tally(answer), totals);
+    column_number(answer)
+}
+
+#[no_mangle]
+pub extern "C" fn fenalukki_viewer_first_hit_counted(
+    file: &[u8],
+    ax: f32,
+    ay: f32,
+    az: f32,
+    bx: f32,
+    by: f32,
+    bz: f32,
+    budget: u32,
+    totals: &mut [u32; 3],
+) -> u64
+    ensures called { λ r. ⌜ HostView (now (file .entry)) (viewRayOf ax ay az bx by bz) budget r ⌝ }
+    ensures counted { λ _. ⌜ now (totals .exit) ≡ lentAfter
+        (viewTally (viewerFirstHit (now (file .entry)) (viewRayOf ax ay az bx by bz) budget)) (now (totals .entry)) ⌝ }
+{
+    let answer = viewer_ticks(file, view_ray_of(ax, ay, az, bx, by, bz), budget);
+    count_lent(hit_tally(answer), totals);
+    hit_number(answer)
 }

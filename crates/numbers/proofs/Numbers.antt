@@ -1,6 +1,8 @@
--- The slicing host's ray as it is read (`hosts-ray`). Its numbers fit, by what the calls promise: a refusal is at most 14, and of 2^k ticks, k at
--- most 12, a call has at most 2^(k+1) − 1 probes and a tick is below 2^k.
-use mathlib.Core.Path.{_≡_, _∙_}
+-- A host's place and ray as they are read (`hosts-place`, `hosts-ray`). The numbers that it gets fit, by what the calls promise: a refusal is at most
+-- 15, and of 2^k ticks, k at most 12, a call has at most 2^(k+1) − 1 probes and a tick is below 2^k; a part has at most 511 nodes.
+use mathlib.Core.Path.{_≡_, sym, subst, _∙_}
+use mathlib.Core.Logic.{_⊎_, inl, inr}
+use mathlib.Core.List.{List, [], _∷_}
 use Prim.Native.Nat.{ℕ, _^_, _≤_, _<_}
 use native.Mathlib.Omega.{arith}
 use lib.IntN.{ℤ}
@@ -8,8 +10,19 @@ use mir.Syntax.{w32}
 use mir.Val.{SFits}
 use mir.Facts.{toZ-ofZ}
 use Rattle.exact.proofs.Machine.{back}
+use Rattle.part.specs.declared.Checked.{Checked}
+use Rattle.part.specs.declared.Checked.the-variants as part
+use Rattle.part.specs.File.{fileQuestions, Says}
+use Rattle.part.proofs.Trailer.{accepted-trailer, count-high}
+use Rattle.part.proofs.File.{file-numbered}
+use Rattle.record.proofs.Questions.{numbered-append, no-numbered}
+use Rattle.loading.specs.Loading.{positionInRange}
+use Rattle.bounds.specs.declared.BoundsAnswer.{BoundsAnswer}
+use Rattle.bounds.specs.declared.BoundsAnswer.the-variants as place
+use Rattle.bounds.specs.Place.{placeQuestions, PlaceSays}
+use Rattle.field.specs.declared.Position.{Position}
 use Rattle.field.specs.declared.Ray.{Ray}
-use Rattle.field.specs.Solid.{Solid}
+use Rattle.field.specs.Solid.{Solid, solidOf}
 use Rattle.halving.specs.declared.CastAnswer.{CastAnswer}
 use Rattle.halving.specs.declared.CastAnswer.the-variants as cast
 use Rattle.halving.specs.declared.HitAnswer.{HitAnswer}
@@ -18,9 +31,18 @@ use Rattle.cast.specs.declared.ColumnAnswer.{ColumnAnswer}
 use Rattle.cast.specs.declared.ColumnAnswer.the-variants as column
 use Rattle.halving.specs.Numbers.{castNumber, hitNumber}
 use Rattle.cast.specs.Column.{columnNumber}
-use Rattle.numbers.specs.Numbers.{rayOf}
 use Rattle.cast.specs.Demands.{AloneHit, Counted, CountedHit, CountedColumn}
 use Rattle.cast.proofs.Ticks.{mark-few}
+use Rattle.view.specs.declared.ViewRay.{ViewRay}
+use Rattle.view.specs.Ray.{stepsRay}
+use Rattle.view.specs.Call.{viewOf, viewerTicks}
+use Rattle.view.specs.Demands.{inTicks, CountedView, ViewDemands}
+use Rattle.numbers.specs.Numbers.{placeOf, rayOf, Told, checkNumber, boundsNumber}
+
+-- the place of the host's three numbers, as they are read
+pub hosts-place : (x y z : ℤ) {p : Position} → SFits w32 x → SFits w32 y → SFits w32 z → p ≡ placeOf (back w32 x) (back w32 y) (back w32 z)
+    → p ≡ placeOf x y z
+hosts-place x y z f g h e = e ∙ simp (toZ-ofZ f, toZ-ofZ g, toZ-ofZ h)
 
 -- the ray of the host's six numbers, as they are read
 pub hosts-ray : (ax ay az bx by bz : ℤ) {ray : Ray}
@@ -47,3 +69,37 @@ module _ (solid : Solid) (ray : Ray) (k : ℕ) (few : 2 ^ k ≤ 4096) where
   unfolding columnNumber CountedColumn
   column-number-fits (column.Refused n) (low, high) = omega arith
   column-number-fits (column.Complete p) (is, most) = omega (arith, few)
+
+-- ---- the check of a file and the bounds at a place
+
+module _ (file : List ℕ) where
+  pub check-number-fits : (a : Checked) → Says file a → checkNumber a < 2 ^ 64
+  unfolding checkNumber Says
+  check-number-fits (part.Refused n) e = omega (arith, no-numbered 11 (fileQuestions file) (file-numbered 11 (omega arith) file) e .1)
+  check-number-fits (part.Accepted s) (ok, nodes, iso) =
+      let t = accepted-trailer file ok in omega (arith, nodes, iso, count-high t, t .iso-high)
+
+  pub check-told : (a : Checked) → Says file a → Told 11 (checkNumber a)
+  unfolding checkNumber Says
+  check-told (part.Refused n) e = inl (no-numbered 11 (fileQuestions file) (file-numbered 11 (omega arith) file) e)
+  check-told (part.Accepted s) says = inr (omega arith)
+
+  pub bounds-told : (p : Position) (a : BoundsAnswer) → PlaceSays file p a → Told 12 (boundsNumber a)
+  unfolding boundsNumber PlaceSays placeQuestions
+  bounds-told p (place.Refused n) e =
+      inl (no-numbered 12 (placeQuestions file p)
+      (numbered-append 12 (fileQuestions file) ((12, positionInRange p) ∷ []) (file-numbered 12 (omega arith) file) (omega arith, omega arith, tt)) e)
+  bounds-told p (place.Bounded b) says = inr (omega arith)
+
+  -- ---- the viewer's first hit
+
+  module _ (ray : ViewRay) (k : ℕ) (few : 2 ^ k ≤ 4096) (budget : ℕ) where
+    pub view-number-fits : (a : HitAnswer) → a ≡ viewerTicks k file ray budget → ViewDemands file ray k budget (viewOf (2 ^ k) a) → hitNumber a < 2 ^ 64
+    unfolding viewOf inTicks CountedView CountedHit hitNumber
+    view-number-fits a e d = go a (subst (AloneHit (solidOf file) (stepsRay ray) (2 ^ k)) (d .ticks ∙ sym e) (d .alone)) (d .counted)
+      where
+        go : (a : HitAnswer) → AloneHit (solidOf file) (stepsRay ray) (2 ^ k) a → CountedView file ray k budget (viewOf (2 ^ k) a) → hitNumber a < 2 ^ 64
+        go (found.Refused n) alone c = elim c [ inl c ↦ omega (arith, c .1) | inr c ↦ elim c [ inl c ↦ omega (arith, c) | inr c ↦ omega (arith, c) ] ]
+        go (found.Hit t s p) alone c = hit-number-fits (solidOf file) (stepsRay ray) k few budget (found.Hit t s p) alone c
+        go (found.Clear p) alone c = hit-number-fits (solidOf file) (stepsRay ray) k few budget (found.Clear p) alone c
+        go (found.Spent t p) alone c = hit-number-fits (solidOf file) (stepsRay ray) k few budget (found.Spent t p) alone c

@@ -1,17 +1,25 @@
-// The slicing host's numbers: the ray that it hands over, and what it gets for each case of an answer (document 01, "Calls").
+// A host's numbers: the place or ray that it hands over, what it gets for each case of an answer, and the running totals that it
+// lends (document 01, "Calls").
 
+use bounds::BoundsAnswer;
 use cast::ColumnAnswer;
 use field::Position;
 use field::Ray;
 use halving::CastAnswer;
 use halving::HitAnswer;
+use part::Checked;
+use tally::Tally;
+use tally::Totals;
+use tally::count;
+use view::ViewEnd;
+use view::ViewRay;
 ghost use mathlib.Core.Path.{_≡_};
 ghost use Prim.Native.Nat.{_^_, _<_};
 ghost use Rattle.halving.specs.Numbers.{castNumber, hitNumber};
 ghost use Rattle.cast.specs.Column.{columnNumber};
-ghost use Rattle.numbers.specs.Numbers.{rayOf};
+ghost use Rattle.numbers.specs.Numbers.{rayOf, viewRayOf, checkNumber, boundsNumber, boundsLeft, lentAfter};
 
-// What k and the tick count in a first hit's number: 2³² and 65,536.
+// What k counts in a number, and what a tick or the node count does: 2³² and 65,536.
 pub const CASE: u64 = 4294967296;
 
 pub const TICK: u64 = 65536;
@@ -27,6 +35,24 @@ pub fn ray_of(ax: i32, ay: i32, az: i32, bx: i32, by: i32, bz: i32) -> Ray
             z: az,
         },
         end: Position {
+            x: bx,
+            y: by,
+            z: bz,
+        },
+    }
+}
+
+// The same in millimetres.
+pub fn view_ray_of(ax: f32, ay: f32, az: f32, bx: f32, by: f32, bz: f32) -> ViewRay
+    ensures { λ r. ⌜ r ≡ viewRayOf ax ay az bx by bz ⌝ }
+{
+    ViewRay {
+        start: ViewEnd {
+            x: ax,
+            y: ay,
+            z: az,
+        },
+        end: ViewEnd {
             x: bx,
             y: by,
             z: bz,
@@ -67,4 +93,41 @@ pub fn column_number(answer: ColumnAnswer) -> u32
         ColumnAnswer::Refused(number) => number,
         ColumnAnswer::Complete { probes } => 65536 + probes,
     }
+}
+
+pub fn check_number(answer: Checked) -> u64
+    requires { ⌜ checkNumber answer < 2 ^ 64 ⌝ }
+    ensures { λ r. ⌜ r ≡ checkNumber answer ⌝ }
+{
+    match answer {
+        Checked::Refused(number) => number as u64,
+        Checked::Accepted(part) => CASE + part.nodes as u64 * TICK + part.iso as u64,
+    }
+}
+
+// The number of the bounds at a place; they go into the lent pair.
+pub fn bounds_number(answer: BoundsAnswer, lent: &mut [i64; 2]) -> u32
+    ensures number { λ r. ⌜ r ≡ boundsNumber answer ⌝ }
+    ensures pair { λ _. ⌜ now (lent .exit) ≡ boundsLeft answer (now (lent .entry)) ⌝ }
+{
+    match answer {
+        BoundsAnswer::Refused(number) => number,
+        BoundsAnswer::Bounded(b) => {
+            *lent = [b.low, b.high];
+            65536
+        }
+    }
+}
+
+// Counts a call in the lent totals.
+pub fn count_lent(tally: Tally, lent: &mut [u32; 3])
+    ensures { λ _. ⌜ now (lent .exit) ≡ lentAfter tally (now (lent .entry)) ⌝ }
+{
+    let totals = Totals {
+        casts: lent[0],
+        probes: lent[1],
+        refusals: lent[2],
+    };
+    let after = count(totals, tally);
+    *lent = [after.casts, after.probes, after.refusals];
 }

@@ -2,10 +2,13 @@
 use mathlib.Core.Path.{_≡_, refl}
 use Prim.Native.Nat.{ℕ, _+_, _≤_, _<_}
 use native.Mathlib.Omega.{arith}
+use Rattle.halving.specs.declared.HitAnswer.{HitAnswer}
+use Rattle.halving.specs.declared.HitAnswer.the-variants as found
+use Rattle.view.specs.Call.{viewOf}
 use Rattle.tally.specs.declared.Totals.{Totals}
 use Rattle.tally.specs.declared.Tally.{Tally}
 use Rattle.tally.specs.declared.Tally.the-variants.{Cast, Refused}
-use Rattle.tally.specs.Counts.{ceiling, capped, afterTally}
+use Rattle.tally.specs.Counts.{ceiling, capped, afterTally, hitTally, viewTally}
 
 -- ---- below the ceiling: a sum is itself
 
@@ -54,3 +57,12 @@ module _ (t : Totals) where
   unfolding afterTally
   refusals-stay (Cast probes) e = e
   refusals-stay Refused e = rw e (capped-stays 1)
+
+-- ---- a viewer's first hit adds what a first hit does
+
+pub view-tally : (ticks : ℕ) (a : HitAnswer) → viewTally (viewOf ticks a) ≡ hitTally a
+unfolding viewTally viewOf hitTally
+view-tally ticks (found.Refused number) = refl
+view-tally ticks (found.Hit tick mark probes) = refl
+view-tally ticks (found.Clear probes) = refl
+view-tally ticks (found.Spent tick probes) = refl
