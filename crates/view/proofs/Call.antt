@@ -1,5 +1,5 @@
 -- The viewer's first hit: its verdict (`view-verdict`) is a first hit's on the ray in steps, or 15; so its answer is a first hit's with places as
--- floats (`view-found`), and demands 2 and 3 of it are a first hit's, for every power of two ticks to 2^23 (`view-demands`); `view-promised` is of
+-- floats (`ticks-found`), and demands 2 and 3 of it are a first hit's, for every power of two ticks to 2^23 (`view-demands`); `view-promised` is of
 -- the call.
 use mathlib.Core.Path.{_≡_, refl, sym, _∙_}
 use mathlib.Core.Logic.{_⊎_, inl, inr}

@@ -1,4 +1,6 @@
-use mathlib.Core.Path.{refl}
+use mathlib.Core.Path.{refl, ap₂}
+use mathlib.Core.List.{[], _∷_}
+use lib.IntN.{ℤ}
 use mir.Syntax.{w64}
 use borrow.Author.Needs.{needs}
 use Rattle.exact.proofs.Machine.{same}
@@ -17,4 +19,4 @@ bounds-number-spec =
     (λ c.
     let b = c .before .before .before in
     let g = b .answer2 .given .0 .0 in
-    rw (b .answer2 .given .1) (refl, rw (same w64 (g .low) (search needs), same w64 (g .high) (search needs)))))
+    rw (b .answer2 .given .1) (refl, ap₂ (λ (x y : ℤ). x ∷ y ∷ []) (same w64 (g .low) (search needs)) (same w64 (g .high) (search needs)))))

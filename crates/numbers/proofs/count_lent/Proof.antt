@@ -1,5 +1,6 @@
+use mathlib.Core.Path.{ap}
 use borrow.Author.Needs.{needs}
-use Rattle.numbers.specs.Numbers.{totalsIn, lentAfter}
+use Rattle.numbers.specs.Numbers.{totalsIn, totalsOut, lentAfter}
 use Rattle.numbers.proofs.count_lent.Statement.{statement}
 use Rattle.numbers.proofs.count_lent.Tie as tie
 
@@ -12,4 +13,4 @@ count-lent-spec =
     (λ c. search needs)
     (λ c. search needs)
     (λ c κs. search needs)
-    (λ c. rw (c .before .count .ensures)))
+    (λ c. ap totalsOut (c .before .count .ensures)))
