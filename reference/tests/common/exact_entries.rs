@@ -1,7 +1,6 @@
 //! The C entries of the archive beside those of `entries`: the check of a file,
 //! the bounds at a place, the viewer's first hit, and the counted calls.
 
-use super::entries::{start, start_mut};
 use reference::field::Ray;
 use reference::view::ViewRay;
 
@@ -89,12 +88,12 @@ extern "C" {
 /// The number of a check of a file.
 pub fn check(file: &[u8]) -> u64 {
     // SAFETY: the pointer is valid for its length.
-    unsafe { fenalukki_check(start(file), file.len()) }
+    unsafe { fenalukki_check(file.as_ptr(), file.len()) }
 }
 
 /// The number of the bounds at a place.
 pub fn place_bounds(file: &[u8], [x, y, z]: [i32; 3], bounds: &mut [i64; 2]) -> u32 {
-    let (at, len) = (start(file), file.len());
+    let (at, len) = (file.as_ptr(), file.len());
     // SAFETY: both pointers are valid for their lengths and do not overlap.
     unsafe { fenalukki_place_bounds(at, len, x, y, z, bounds.as_mut_ptr()) }
 }
@@ -102,7 +101,7 @@ pub fn place_bounds(file: &[u8], [x, y, z]: [i32; 3], bounds: &mut [i64; 2]) -> 
 /// The number of a viewer's first hit.
 pub fn viewer_first_hit(file: &[u8], ray: &ViewRay, budget: u32) -> u64 {
     let ([ax, ay, az], [bx, by, bz]) = (ray.a, ray.b);
-    let (at, len) = (start(file), file.len());
+    let (at, len) = (file.as_ptr(), file.len());
     // SAFETY: the pointer is valid for its length.
     unsafe { fenalukki_viewer_first_hit(at, len, ax, ay, az, bx, by, bz, budget) }
 }
@@ -116,8 +115,8 @@ pub fn full_cast_counted(
     totals: &mut [u32; 3],
 ) -> u32 {
     let ([ax, ay, az], [bx, by, bz]) = (ray.a, ray.b);
-    let (at, len) = (start(file), file.len());
-    let (to, room) = (start_mut(marks), marks.len());
+    let (at, len) = (file.as_ptr(), file.len());
+    let (to, room) = (marks.as_mut_ptr(), marks.len());
     let sums = totals.as_mut_ptr();
     // SAFETY: all three pointers are valid for their lengths and do not overlap.
     unsafe { fenalukki_full_cast_counted(at, len, ax, ay, az, bx, by, bz, budget, to, room, sums) }
@@ -126,7 +125,7 @@ pub fn full_cast_counted(
 /// The number of a counted first hit.
 pub fn first_hit_counted(file: &[u8], ray: &Ray, budget: u32, totals: &mut [u32; 3]) -> u64 {
     let ([ax, ay, az], [bx, by, bz]) = (ray.a, ray.b);
-    let (at, len) = (start(file), file.len());
+    let (at, len) = (file.as_ptr(), file.len());
     let sums = totals.as_mut_ptr();
     // SAFETY: both pointers are valid for their lengths and do not overlap.
     unsafe { fenalukki_first_hit_counted(at, len, ax, ay, az, bx, by, bz, budget, sums) }
@@ -135,8 +134,8 @@ pub fn first_hit_counted(file: &[u8], ray: &Ray, budget: u32, totals: &mut [u32;
 /// The number of a counted column.
 pub fn column_counted(file: &[u8], ray: &Ray, column: &mut [u8], totals: &mut [u32; 3]) -> u32 {
     let ([ax, ay, az], [bx, by, bz]) = (ray.a, ray.b);
-    let (at, len) = (start(file), file.len());
-    let (to, room) = (start_mut(column), column.len());
+    let (at, len) = (file.as_ptr(), file.len());
+    let (to, room) = (column.as_mut_ptr(), column.len());
     let sums = totals.as_mut_ptr();
     // SAFETY: all three pointers are valid for their lengths and do not overlap.
     unsafe { fenalukki_column_counted(at, len, ax, ay, az, bx, by, bz, to, room, sums) }
@@ -150,7 +149,7 @@ pub fn viewer_first_hit_counted(
     totals: &mut [u32; 3],
 ) -> u64 {
     let ([ax, ay, az], [bx, by, bz]) = (ray.a, ray.b);
-    let (at, len) = (start(file), file.len());
+    let (at, len) = (file.as_ptr(), file.len());
     let sums = totals.as_mut_ptr();
     // SAFETY: both pointers are valid for their lengths and do not overlap.
     unsafe { fenalukki_viewer_first_hit_counted(at, len, ax, ay, az, bx, by, bz, budget, sums) }
