@@ -1,8 +1,13 @@
 //! The calls: bounds at a place, full cast, first hit and column, with marks,
 //! probes, the halving search and the budget.
+//!
+//! The search asks a [`SpanBounds`] for the bounds of spans. `full_cast_by`,
+//! `first_hit_by` and `column_by` are told which: `ExactField`, the fractions,
+//! or `TickField`, the quick one, which the calls without `_by` take.
 
-use crate::field::{place_bounds, tick_bounds, whole_place, Bounds, Ray, TickField};
+use crate::field::{place_bounds, tick_bounds, whole_place, Bounds, Ray, SpanBounds};
 use crate::part::{read, Part, REACH};
+use crate::quick::TickField;
 
 /// Ticks of a ray, and mark bytes of a full cast.
 pub const TICKS: u32 = 1024;
@@ -216,7 +221,7 @@ pub fn probe_count(part: &Part, ray: &Ray, first: u32, after: u32) -> Option<u32
 }
 
 /// How a search ended.
-pub(crate) enum End {
+enum End {
     Complete,
     Stopped,
     Spent(u32),
@@ -225,13 +230,13 @@ pub(crate) enum End {
 /// The halving search over the whole ray, left half first. `settle` gets each
 /// settled span (first tick, tick after the last, mark) in order and says
 /// whether to go on. Answers the end and the probes made.
-pub(crate) fn search(
+fn search<F: SpanBounds>(
     part: &Part,
     ray: &Ray,
     budget: Option<u32>,
     mut settle: impl FnMut(u32, u32, Mark) -> bool,
 ) -> Option<(End, u32)> {
-    let field = TickField::new(&part.nodes, *ray);
+    let field = F::new(&part.nodes, *ray);
     let mut waiting = vec![(0, TICKS)];
     let mut probes = 0;
     while let Some((first, after)) = waiting.pop() {
@@ -253,10 +258,25 @@ pub(crate) fn search(
 
 /// Full cast: 1,024 marks into `buffer`.
 pub fn full_cast(file: &[u8], ray: &Ray, budget: u32, buffer: &mut [u8]) -> FullCast {
-    try_full_cast(file, ray, budget, buffer).unwrap_or_else(FullCast::Refused)
+    full_cast_by::<TickField>(file, ray, budget, buffer)
 }
 
-fn try_full_cast(file: &[u8], ray: &Ray, budget: u32, buffer: &mut [u8]) -> Result<FullCast, u32> {
+/// Full cast by the bounds named.
+pub fn full_cast_by<F: SpanBounds>(
+    file: &[u8],
+    ray: &Ray,
+    budget: u32,
+    buffer: &mut [u8],
+) -> FullCast {
+    try_full_cast::<F>(file, ray, budget, buffer).unwrap_or_else(FullCast::Refused)
+}
+
+fn try_full_cast<F: SpanBounds>(
+    file: &[u8],
+    ray: &Ray,
+    budget: u32,
+    buffer: &mut [u8],
+) -> Result<FullCast, u32> {
     let part = accept(file, ray)?;
     let marks = room(buffer, TICKS as usize)?;
     let mut work = [NOT_LOOKED_AT; TICKS as usize];
@@ -264,7 +284,7 @@ fn try_full_cast(file: &[u8], ray: &Ray, budget: u32, buffer: &mut [u8]) -> Resu
         work[first as usize..after as usize].fill(mark.byte());
         true
     };
-    let (end, probes) = search(&part, ray, Some(budget), settle).ok_or(11u32)?;
+    let (end, probes) = search::<F>(&part, ray, Some(budget), settle).ok_or(11u32)?;
     marks.copy_from_slice(&work);
     Ok(match end {
         End::Spent(tick) => FullCast::Spent { probes, tick },
@@ -274,14 +294,19 @@ fn try_full_cast(file: &[u8], ray: &Ray, budget: u32, buffer: &mut [u8]) -> Resu
 
 /// First hit: the first tick not empty.
 pub fn first_hit(file: &[u8], ray: &Ray, budget: u32) -> FirstHit {
+    first_hit_by::<TickField>(file, ray, budget)
+}
+
+/// First hit by the bounds named.
+pub fn first_hit_by<F: SpanBounds>(file: &[u8], ray: &Ray, budget: u32) -> FirstHit {
     match accept(file, ray) {
-        Ok(part) => hit(&part, ray, budget),
+        Ok(part) => hit::<F>(&part, ray, budget),
         Err(number) => FirstHit::Refused(number),
     }
 }
 
 /// The first hit of an accepted ray.
-pub(crate) fn hit(part: &Part, ray: &Ray, budget: u32) -> FirstHit {
+pub(crate) fn hit<F: SpanBounds>(part: &Part, ray: &Ray, budget: u32) -> FirstHit {
     let mut found = None;
     let settle = |first: u32, _: u32, mark: Mark| {
         if mark != Mark::Empty {
@@ -289,7 +314,7 @@ pub(crate) fn hit(part: &Part, ray: &Ray, budget: u32) -> FirstHit {
         }
         mark == Mark::Empty
     };
-    let Some((end, probes)) = search(part, ray, Some(budget), settle) else {
+    let Some((end, probes)) = search::<F>(part, ray, Some(budget), settle) else {
         return FirstHit::Refused(11);
     };
     match (end, found) {
@@ -301,10 +326,15 @@ pub(crate) fn hit(part: &Part, ray: &Ray, budget: u32) -> FirstHit {
 
 /// Column: 128 bytes into `buffer`, one bit for each tick.
 pub fn column(file: &[u8], ray: &Ray, buffer: &mut [u8]) -> Column {
-    try_column(file, ray, buffer).unwrap_or_else(Column::Refused)
+    column_by::<TickField>(file, ray, buffer)
 }
 
-fn try_column(file: &[u8], ray: &Ray, buffer: &mut [u8]) -> Result<Column, u32> {
+/// Column by the bounds named.
+pub fn column_by<F: SpanBounds>(file: &[u8], ray: &Ray, buffer: &mut [u8]) -> Column {
+    try_column::<F>(file, ray, buffer).unwrap_or_else(Column::Refused)
+}
+
+fn try_column<F: SpanBounds>(file: &[u8], ray: &Ray, buffer: &mut [u8]) -> Result<Column, u32> {
     let part = accept(file, ray)?;
     let bits = room(buffer, COLUMN_BYTES)?;
     let mut work = [0u8; COLUMN_BYTES];
@@ -316,7 +346,7 @@ fn try_column(file: &[u8], ray: &Ray, buffer: &mut [u8]) -> Result<Column, u32> 
         }
         true
     };
-    let (_, probes) = search(&part, ray, None, settle).ok_or(11u32)?;
+    let (_, probes) = search::<F>(&part, ray, None, settle).ok_or(11u32)?;
     bits.copy_from_slice(&work);
     Ok(Column::Done { probes })
 }

@@ -1,5 +1,6 @@
 //! The exact field, the exact least and greatest u of a span, bounds in
-//! units of 1/2^32, and the tolerance of a crossing tick.
+//! units of 1/2^32, and the tolerance of a crossing tick. All is worked out with
+//! fractions up to the rounding of 65536 u; from there bounds are whole numbers.
 //!
 //! A place of a ray is A + s (B - A) for a fraction s from 0 to 1. Distances
 //! are always worked out from the coordinates of a place.
@@ -7,7 +8,6 @@
 use crate::big::Big;
 use crate::fraction::Fraction;
 use crate::part::{Kind, Node};
-use std::cmp::Ordering;
 
 /// A ray from end A to end B, in steps.
 #[derive(Clone, Copy, Debug, PartialEq, Eq)]
@@ -56,17 +56,18 @@ pub fn whole_place(at: [i32; 3]) -> Place {
     at.map(|c| Fraction::from(i64::from(c)))
 }
 
-/// Works out a tree given in postfix order. `None` if the nodes are no tree.
+/// Works out a tree given in postfix order. `None` if the nodes are no tree or
+/// a point has no value.
 fn fold<T>(
     nodes: &[Node],
-    mut leaf: impl FnMut(usize, &Node) -> T,
+    mut leaf: impl FnMut(usize, &Node) -> Option<T>,
     sum: impl Fn(T, T) -> T,
     greater: impl Fn(T, T) -> T,
 ) -> Option<T> {
     let mut held = Vec::new();
     for (index, node) in nodes.iter().enumerate() {
         let value = match node.kind {
-            Kind::Point => leaf(index, node),
+            Kind::Point => leaf(index, node)?,
             Kind::Sum => {
                 let right = held.pop()?;
                 sum(held.pop()?, right)
@@ -117,7 +118,7 @@ pub fn field_at(nodes: &[Node], place: &Place) -> Option<Fraction> {
         nodes,
         |_, point| {
             let u = u_at(place, point);
-            &(&u * &u) * &Fraction::from(i64::from(point.w))
+            Some(&(&u * &u) * &Fraction::from(i64::from(point.w)))
         },
         |left, right| &left + &right,
         |left, right| left.max(right),
@@ -152,7 +153,7 @@ pub fn u_range(ray: &Ray, point: &Node, from: &Fraction, to: &Fraction) -> (Frac
     let distance = |s: &Fraction| distance_squared(&ray.place(s), point);
     let farthest = distance(from).max(distance(to));
     let closest = match nearest(ray, point) {
-        Some(s) => distance(&s.max(from.clone()).min(to.clone())),
+        Some(s) => distance((&s).max(from).min(to)),
         None => distance(from),
     };
     (u_of(&farthest, point), u_of(&closest, point))
@@ -172,8 +173,13 @@ fn q_low(u: &Fraction) -> i64 {
 }
 
 /// 65536 u rounded up.
-fn q_high(u: &Fraction) -> i64 {
+pub(crate) fn q_high(u: &Fraction) -> i64 {
     units(&(u * &Fraction::from(65536)).ceil())
+}
+
+/// 65536 times the least u rounded down, and times the greatest rounded up.
+pub(crate) fn q_range(least: &Fraction, greatest: &Fraction) -> (i64, i64) {
+    (q_low(least), q_high(greatest))
 }
 
 /// The bounds of a point of weight w whose q lies between the two given.
@@ -200,30 +206,69 @@ fn greater_bounds(left: Bounds, right: Bounds) -> Bounds {
     }
 }
 
-/// The bounds of the tree over the ray from `from` to `to`, by fractions.
-pub fn span_bounds(nodes: &[Node], ray: &Ray, from: &Fraction, to: &Fraction) -> Option<Bounds> {
-    let leaf = |_, point: &Node| {
-        let (least, greatest) = u_range(ray, point, from, to);
-        weigh(point.w, q_low(&least), q_high(&greatest))
+/// The bounds of the tree, told the two q of each point.
+pub(crate) fn tree_bounds(
+    nodes: &[Node],
+    both_q: impl Fn(usize, &Node) -> Option<(i64, i64)>,
+) -> Option<Bounds> {
+    let leaf = |index: usize, point: &Node| {
+        let (low, high) = both_q(index, point)?;
+        Some(weigh(point.w, low, high))
     };
     fold(nodes, leaf, sum_bounds, greater_bounds)
+}
+
+/// The bounds of the tree over the ray from `from` to `to`.
+pub fn span_bounds(nodes: &[Node], ray: &Ray, from: &Fraction, to: &Fraction) -> Option<Bounds> {
+    tree_bounds(nodes, |_, point| {
+        let (least, greatest) = u_range(ray, point, from, to);
+        Some(q_range(&least, &greatest))
+    })
 }
 
 /// The bounds of the tree at one place.
 pub fn place_bounds(nodes: &[Node], place: &Place) -> Option<Bounds> {
-    let leaf = |_, point: &Node| {
+    tree_bounds(nodes, |_, point| {
         let u = u_at(place, point);
-        weigh(point.w, q_low(&u), q_high(&u))
-    };
-    fold(nodes, leaf, sum_bounds, greater_bounds)
+        Some(q_range(&u, &u))
+    })
+}
+
+/// The fraction of the way at which tick `tick` begins.
+pub(crate) fn start_of(tick: u32) -> Option<Fraction> {
+    Fraction::new(i128::from(tick), 1024)
 }
 
 /// The bounds of the tree over the ticks from `first` up to, not including,
-/// `after`, by fractions.
+/// `after`.
 pub fn tick_bounds(nodes: &[Node], ray: &Ray, first: u32, after: u32) -> Option<Bounds> {
-    let from = Fraction::new(i128::from(first), 1024)?;
-    let to = Fraction::new(i128::from(after), 1024)?;
-    span_bounds(nodes, ray, &from, &to)
+    span_bounds(nodes, ray, &start_of(first)?, &start_of(after)?)
+}
+
+/// Bounds of spans of whole ticks of one ray.
+pub trait SpanBounds {
+    /// Prepares the ray.
+    fn new(nodes: &[Node], ray: Ray) -> Self;
+
+    /// The bounds over the ticks from `first` up to, not including, `after`.
+    fn bounds(&self, first: u32, after: u32) -> Option<Bounds>;
+}
+
+/// Those bounds by fractions, each worked out afresh by `tick_bounds`.
+pub struct ExactField {
+    nodes: Vec<Node>,
+    ray: Ray,
+}
+
+impl SpanBounds for ExactField {
+    fn new(nodes: &[Node], ray: Ray) -> ExactField {
+        let nodes = nodes.to_vec();
+        ExactField { nodes, ray }
+    }
+
+    fn bounds(&self, first: u32, after: u32) -> Option<Bounds> {
+        tick_bounds(&self.nodes, &self.ray, first, after)
+    }
 }
 
 /// The greatest distance of the field from iso in a crossing tick: over the
@@ -238,103 +283,4 @@ pub fn tolerance(nodes: &[Node], ray: &Ray) -> Option<Fraction> {
         total = &total + &(&size * &(&slope + &rounding));
     }
     Some(total)
-}
-
-/// Bounds of spans of whole ticks of one ray, with each point's nearest place
-/// kept. Span ends are worked out in checked `i64`; where that overflows, and
-/// for the nearest places, the fractions above serve.
-pub struct TickField<'a> {
-    nodes: &'a [Node],
-    ray: Ray,
-    nearest: Vec<Option<Nearest>>,
-}
-
-/// The nearest place of the line to a centre: s, and 65536 u rounded up there.
-struct Nearest {
-    s: Fraction,
-    q_high: i64,
-}
-
-impl<'a> TickField<'a> {
-    /// Prepares the ray.
-    pub fn new(nodes: &'a [Node], ray: Ray) -> TickField<'a> {
-        let keep = |node: &Node| {
-            if node.kind != Kind::Point {
-                return None;
-            }
-            let s = nearest(&ray, node)?;
-            let q_high = q_high(&u_at(&ray.place(&s), node));
-            Some(Nearest { s, q_high })
-        };
-        TickField {
-            nodes,
-            ray,
-            nearest: nodes.iter().map(keep).collect(),
-        }
-    }
-
-    /// The bounds over the ticks from `first` up to, not including, `after`.
-    pub fn bounds(&self, first: u32, after: u32) -> Option<Bounds> {
-        let leaf = |index: usize, point: &Node| {
-            let (low, high) = match self.quick_range(index, point, first, after) {
-                Some(range) => range,
-                None => self.slow_range(point, first, after)?,
-            };
-            Some(weigh(point.w, low, high))
-        };
-        let both = |join: fn(Bounds, Bounds) -> Bounds| {
-            move |left: Option<Bounds>, right: Option<Bounds>| Some(join(left?, right?))
-        };
-        fold(self.nodes, leaf, both(sum_bounds), both(greater_bounds))?
-    }
-
-    /// q at the ends in `i64`, and at the nearest place if the span holds it.
-    fn quick_range(
-        &self,
-        index: usize,
-        point: &Node,
-        first: u32,
-        after: u32,
-    ) -> Option<(i64, i64)> {
-        let kept = self.nearest.get(index)?.as_ref()?;
-        let (first_low, first_high) = self.quick_q(point, first)?;
-        let (after_low, after_high) = self.quick_q(point, after)?;
-        let from = Fraction::new(i128::from(first), 1024)?;
-        let to = Fraction::new(i128::from(after), 1024)?;
-        let high = match (kept.s.cmp(&from), kept.s.cmp(&to)) {
-            (Ordering::Less, _) => first_high,
-            (_, Ordering::Greater) => after_high,
-            _ => kept.q_high,
-        };
-        Some((first_low.min(after_low), high))
-    }
-
-    /// 65536 u rounded down and up where tick `tick` begins. Coordinates are
-    /// taken in 1/1024 steps.
-    fn quick_q(&self, point: &Node, tick: u32) -> Option<(i64, i64)> {
-        let centre = [point.x, point.y, point.z];
-        let differences = self.ray.differences();
-        let mut distance: i64 = 0;
-        for i in 0..3 {
-            let start = i64::from(self.ray.a[i]).checked_sub(i64::from(centre[i]))?;
-            let way = differences[i].checked_mul(i64::from(tick))?;
-            let offset = start.checked_mul(1024)?.checked_add(way)?;
-            distance = distance.checked_add(offset.checked_mul(offset)?)?;
-        }
-        let radius = i64::from(point.r).checked_mul(1024)?;
-        let whole = radius.checked_mul(radius)?;
-        if distance >= whole {
-            return Some((0, 0));
-        }
-        let scaled = whole.checked_sub(distance)?.checked_mul(65536)?;
-        let up = i64::from(scaled % whole != 0);
-        Some((scaled / whole, (scaled / whole).checked_add(up)?))
-    }
-
-    fn slow_range(&self, point: &Node, first: u32, after: u32) -> Option<(i64, i64)> {
-        let from = Fraction::new(i128::from(first), 1024)?;
-        let to = Fraction::new(i128::from(after), 1024)?;
-        let (least, greatest) = u_range(&self.ray, point, &from, &to);
-        Some((q_low(&least), q_high(&greatest)))
-    }
 }

@@ -1,10 +1,11 @@
-//! The exact reference of the ray caster for trees of soft points, written
-//! from the rules alone with exact fractions.
+//! The reference of the ray caster for trees of soft points, written from the
+//! rules alone: with exact fractions, and with a quick path beside them.
 //!
 //! - [`big`]: whole numbers of any size.
 //! - [`fraction`]: exact fractions.
 //! - [`part`]: the part file, its questions and a builder.
 //! - [`field`]: the exact field, bounds of spans and places, the tolerance.
+//! - [`quick`]: bounds of spans with whole numbers at their ends.
 //! - [`cast`]: bounds at a place, full cast, first hit and column.
 //! - [`view`]: the viewer's first hit.
 //! - [`lister`]: the ray lister's text.
@@ -21,5 +22,6 @@ pub mod fraction;
 pub mod generate;
 pub mod lister;
 pub mod part;
+pub mod quick;
 pub mod totals;
 pub mod view;

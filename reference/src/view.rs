@@ -1,9 +1,11 @@
 //! The viewer's first hit: six 32-bit floats in millimetres, taken apart and
-//! put together by their bits.
+//! put together by their bits. As in [`crate::cast`], the call with `_by` is
+//! told where bounds come from.
 
 use crate::cast::{hit, FirstHit, Mark};
-use crate::field::Ray;
+use crate::field::{Ray, SpanBounds};
 use crate::part::{read, REACH};
+use crate::quick::TickField;
 
 /// A ray as the viewer hands it over, in millimetres.
 #[derive(Clone, Copy, Debug)]
@@ -56,7 +58,12 @@ impl ViewerHit {
 
 /// The viewer's first hit: questions 1 to 11, then 15, then 13.
 pub fn viewer_first_hit(file: &[u8], view: ViewRay, budget: u32) -> ViewerHit {
-    match try_viewer(file, view, budget) {
+    viewer_first_hit_by::<TickField>(file, view, budget)
+}
+
+/// The viewer's first hit by the bounds named.
+pub fn viewer_first_hit_by<F: SpanBounds>(file: &[u8], view: ViewRay, budget: u32) -> ViewerHit {
+    match try_viewer::<F>(file, view, budget) {
         Err(number) | Ok(FirstHit::Refused(number)) => ViewerHit::Refused(number),
         Ok(FirstHit::Clear { probes }) => ViewerHit::Clear { probes },
         Ok(FirstHit::Hit { tick, mark, probes }) => ViewerHit::Hit {
@@ -71,7 +78,7 @@ pub fn viewer_first_hit(file: &[u8], view: ViewRay, budget: u32) -> ViewerHit {
     }
 }
 
-fn try_viewer(file: &[u8], view: ViewRay, budget: u32) -> Result<FirstHit, u32> {
+fn try_viewer<F: SpanBounds>(file: &[u8], view: ViewRay, budget: u32) -> Result<FirstHit, u32> {
     let part = read(file)?;
     let ray = Ray {
         a: steps(view.a).ok_or(15u32)?,
@@ -80,7 +87,7 @@ fn try_viewer(file: &[u8], view: ViewRay, budget: u32) -> Result<FirstHit, u32> 
     if ray.a == ray.b {
         return Err(13);
     }
-    Ok(hit(&part, &ray, budget))
+    Ok(hit::<F>(&part, &ray, budget))
 }
 
 fn steps(millimetres: [f32; 3]) -> Option<[i32; 3]> {

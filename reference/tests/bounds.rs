@@ -4,11 +4,12 @@
 use reference::cast::bounds_at;
 use reference::field::{
     field_at, field_on_ray, nearest, place_bounds, span_bounds, tick_bounds, tolerance, u_at,
-    u_range, whole_place, Bounds, Ray, TickField,
+    u_range, whole_place, Bounds, Ray, SpanBounds,
 };
 use reference::fraction::Fraction;
 use reference::generate::{self, Shape, SplitMix64, STYLES};
 use reference::part::{read, FileBuilder, Kind, Node, Part};
+use reference::quick::TickField;
 
 const SHAPES: [Shape; 3] = [
     Shape {

@@ -1,11 +1,14 @@
-//! Marks, probes and budgets against the rules: each tick judged alone, the
-//! probe count by its definition, first hit and column by the full cast.
+//! Marks, probes and budgets against the rules, by the exact fractions and by
+//! the quick path: each tick judged alone, the probe count by its definition,
+//! both by fractions; first hit and column by the full cast.
 
-use reference::cast::{column, first_hit, full_cast, judge, judge_tick, probe_count};
+use reference::cast::{column_by, first_hit, first_hit_by, full_cast, full_cast_by};
+use reference::cast::{judge, judge_tick, probe_count};
 use reference::cast::{Column, FirstHit, FullCast, Mark, NOT_LOOKED_AT};
-use reference::field::{tick_bounds, Ray};
+use reference::field::{tick_bounds, ExactField, Ray, SpanBounds};
 use reference::generate::{self, Shape, SplitMix64, STYLES};
 use reference::part::{read, FileBuilder, Part};
+use reference::quick::TickField;
 
 struct Case {
     part: Part,
@@ -34,21 +37,24 @@ impl Case {
 
     fn check(&self) {
         assert!((1..=2047).contains(&self.count));
-        let more = [self.count + 1, 2047, 2048, 65_536, u32::MAX];
-        for budget in [0, 1, self.count - 1, self.count].iter().chain(&more) {
-            self.check_full_cast(*budget);
-            self.check_first_hit(*budget);
-        }
-        for budget in (2..self.count).step_by(1 + self.count as usize / 20) {
-            self.check_full_cast(budget);
-            self.check_first_hit(budget);
-        }
-        self.check_column();
+        self.check_calls::<TickField>();
+        self.check_calls::<ExactField>();
     }
 
-    fn check_full_cast(&self, budget: u32) {
+    fn check_calls<F: SpanBounds>(&self) {
+        let more = [self.count + 1, 2047, 2048, 65_536, u32::MAX];
+        let fewer = (2..self.count).step_by(1 + self.count as usize / 20);
+        let limits = [0, 1, self.count - 1, self.count].into_iter();
+        for budget in limits.chain(more).chain(fewer) {
+            self.check_full_cast::<F>(budget);
+            self.check_first_hit::<F>(budget);
+        }
+        self.check_column::<F>();
+    }
+
+    fn check_full_cast<F: SpanBounds>(&self, budget: u32) {
         let mut marks = [9; 1030];
-        let cast = full_cast(&self.file, &self.ray, budget, &mut marks);
+        let cast = full_cast_by::<F>(&self.file, &self.ray, budget, &mut marks);
         let probes = budget.min(self.count);
         let reached = match cast {
             FullCast::Spent { tick, .. } => {
@@ -93,17 +99,17 @@ impl Case {
         Some(first)
     }
 
-    fn check_first_hit(&self, budget: u32) {
-        let hit = first_hit(&self.file, &self.ray, budget);
+    fn check_first_hit<F: SpanBounds>(&self, budget: u32) {
+        let hit = first_hit_by::<F>(&self.file, &self.ray, budget);
         let mut marks = [9; 1024];
-        let cast = full_cast(&self.file, &self.ray, budget, &mut marks);
+        let cast = full_cast_by::<F>(&self.file, &self.ray, budget, &mut marks);
         let first = self.alone.iter().position(|&m| m != 0);
         match hit {
             FirstHit::Hit { tick, mark, probes } => {
                 assert_eq!(first, Some(tick as usize));
                 assert_eq!(mark.byte(), self.alone[tick as usize]);
                 assert!(Some(probes) <= cast.probes());
-                let fewer = first_hit(&self.file, &self.ray, probes - 1);
+                let fewer = first_hit_by::<F>(&self.file, &self.ray, probes - 1);
                 assert!(matches!(fewer, FirstHit::Spent { .. }));
             }
             FirstHit::Clear { probes } => {
@@ -140,9 +146,9 @@ impl Case {
         }
     }
 
-    fn check_column(&self) {
+    fn check_column<F: SpanBounds>(&self) {
         let mut bits = [9; 130];
-        let done = column(&self.file, &self.ray, &mut bits);
+        let done = column_by::<F>(&self.file, &self.ray, &mut bits);
         let probes = self.count;
         assert_eq!(done, Column::Done { probes });
         for t in 0..1024 {
@@ -150,7 +156,8 @@ impl Case {
             assert_eq!(bit == 1, self.alone[t] != 0, "tick {t}");
         }
         assert_eq!(bits[128..], [9, 9]);
-        if let FirstHit::Hit { tick, probes, .. } = first_hit(&self.file, &self.ray, u32::MAX) {
+        let hit = first_hit_by::<F>(&self.file, &self.ray, u32::MAX);
+        if let FirstHit::Hit { tick, probes, .. } = hit {
             assert_eq!(probes, self.hit_probes(0, 1024, tick));
         }
     }

@@ -1,10 +1,11 @@
 //! The viewer's floats and its first hit.
 
 use reference::cast::{first_hit, FirstHit};
-use reference::field::Ray;
+use reference::field::{ExactField, Ray};
 use reference::generate::{self, Shape, SplitMix64, STYLES};
 use reference::part::FileBuilder;
-use reference::view::{over_1024, step, viewer_first_hit, ViewRay, ViewerHit};
+use reference::view::{over_1024, step, viewer_first_hit, viewer_first_hit_by};
+use reference::view::{ViewRay, ViewerHit};
 
 fn file_k() -> Vec<u8> {
     FileBuilder::new(1).point(512, [0; 3], 4).build()
@@ -205,8 +206,10 @@ fn equals_the_first_hit() {
             b: ray.b.map(|c| c as f32 / 64.0),
         };
         for budget in [0, 1, 5, 12, 20, 2047] {
-            let viewed = viewer_first_hit(&file, view, budget);
-            assert_eq!(as_first_hit(viewed), first_hit(&file, &ray, budget));
+            let quick = viewer_first_hit(&file, view, budget);
+            assert_eq!(as_first_hit(quick), first_hit(&file, &ray, budget));
+            let exact = viewer_first_hit_by::<ExactField>(&file, view, budget);
+            assert_eq!(exact, quick);
         }
     }
 }

@@ -1,0 +1,104 @@
+//! The quick path, for volume: bounds of spans of whole ticks, with q at their
+//! ends worked out in whole numbers.
+//!
+//! Coordinates are taken in 1/1024 steps, so squared distances are scaled by
+//! 1024^2, as the delivered crates scale them; in that the path is not
+//! independent of them. The nearest places, and q there, come from the
+//! fractions.
+
+use crate::field::{
+    nearest, q_high, q_range, start_of, tree_bounds, u_at, u_range, Bounds, Ray, SpanBounds,
+};
+use crate::fraction::Fraction;
+use crate::part::{Kind, Node};
+use std::cmp::Ordering;
+
+/// Bounds of spans of whole ticks of one ray, with each point's nearest place
+/// kept. Span ends are worked out in checked `i64`; where that overflows the
+/// fractions serve.
+pub struct TickField {
+    nodes: Vec<Node>,
+    ray: Ray,
+    nearest: Vec<Option<Nearest>>,
+}
+
+/// The nearest place of the line to a centre: s, and 65536 u rounded up there.
+struct Nearest {
+    s: Fraction,
+    q_high: i64,
+}
+
+impl SpanBounds for TickField {
+    fn new(nodes: &[Node], ray: Ray) -> TickField {
+        let keep = |node: &Node| {
+            if node.kind != Kind::Point {
+                return None;
+            }
+            let s = nearest(&ray, node)?;
+            let q_high = q_high(&u_at(&ray.place(&s), node));
+            Some(Nearest { s, q_high })
+        };
+        TickField {
+            nodes: nodes.to_vec(),
+            ray,
+            nearest: nodes.iter().map(keep).collect(),
+        }
+    }
+
+    fn bounds(&self, first: u32, after: u32) -> Option<Bounds> {
+        tree_bounds(&self.nodes, |index, point| {
+            let quick = self.quick_range(index, point, first, after);
+            quick.or_else(|| self.slow_range(point, first, after))
+        })
+    }
+}
+
+impl TickField {
+    /// q at the ends in `i64`, and at the nearest place if the span holds it.
+    fn quick_range(
+        &self,
+        index: usize,
+        point: &Node,
+        first: u32,
+        after: u32,
+    ) -> Option<(i64, i64)> {
+        let kept = self.nearest.get(index)?.as_ref()?;
+        let (first_low, first_high) = self.quick_q(point, first)?;
+        let (after_low, after_high) = self.quick_q(point, after)?;
+        let (from, to) = (start_of(first)?, start_of(after)?);
+        let high = match (kept.s.cmp(&from), kept.s.cmp(&to)) {
+            (Ordering::Less, _) => first_high,
+            (_, Ordering::Greater) => after_high,
+            _ => kept.q_high,
+        };
+        Some((first_low.min(after_low), high))
+    }
+
+    /// 65536 u rounded down and up where tick `tick` begins. Coordinates are
+    /// taken in 1/1024 steps.
+    fn quick_q(&self, point: &Node, tick: u32) -> Option<(i64, i64)> {
+        let centre = [point.x, point.y, point.z];
+        let differences = self.ray.differences();
+        let mut distance: i64 = 0;
+        for i in 0..3 {
+            let start = i64::from(self.ray.a[i]).checked_sub(i64::from(centre[i]))?;
+            let way = differences[i].checked_mul(i64::from(tick))?;
+            let offset = start.checked_mul(1024)?.checked_add(way)?;
+            distance = distance.checked_add(offset.checked_mul(offset)?)?;
+        }
+        let radius = i64::from(point.r).checked_mul(1024)?;
+        let whole = radius.checked_mul(radius)?;
+        if distance >= whole {
+            return Some((0, 0));
+        }
+        let scaled = whole.checked_sub(distance)?.checked_mul(65536)?;
+        let up = i64::from(scaled % whole != 0);
+        Some((scaled / whole, (scaled / whole).checked_add(up)?))
+    }
+
+    fn slow_range(&self, point: &Node, first: u32, after: u32) -> Option<(i64, i64)> {
+        let (from, to) = (start_of(first)?, start_of(after)?);
+        let (least, greatest) = u_range(&self.ray, point, &from, &to);
+        Some(q_range(&least, &greatest))
+    }
+}

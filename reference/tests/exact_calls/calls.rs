@@ -1,0 +1,167 @@
+//! Calls of the archive, each compared with the reference by exact fractions:
+//! the number, every byte of the buffer and around it, the totals, and the
+//! file, which stays as it was. They answer the reference's answer. A casting
+//! call is made twice, plain and counted.
+
+use crate::guards::in_guards;
+use crate::{entries, exact_entries};
+use reference::cast::{bounds_at, column_by, first_hit_by, full_cast_by};
+use reference::cast::{Column, FirstHit, FullCast};
+use reference::field::{Bounds, ExactField, Ray};
+use reference::part;
+use reference::totals::Totals;
+use reference::view::{viewer_first_hit_by, ViewRay, ViewerHit};
+
+/// What the bounds' two numbers are before a call.
+const BEFORE: [i64; 2] = [-7, 7];
+
+/// A ray in millimetres.
+pub fn in_millimetres(ray: &Ray) -> ViewRay {
+    let millimetres = |end: [i32; 3]| end.map(|c| c as f32 / 64.0);
+    ViewRay {
+        a: millimetres(ray.a),
+        b: millimetres(ray.b),
+    }
+}
+
+/// The number of a viewer's answer: that of the first hit at its place.
+fn viewer_number(answer: ViewerHit) -> u64 {
+    let tick = |place: f32| (f64::from(place) * 1024.0) as u32;
+    let hit = match answer {
+        ViewerHit::Refused(number) => FirstHit::Refused(number),
+        ViewerHit::Hit {
+            entry,
+            mark,
+            probes,
+        } => FirstHit::Hit {
+            tick: tick(entry),
+            mark,
+            probes,
+        },
+        ViewerHit::Clear { probes } => FirstHit::Clear { probes },
+        ViewerHit::Spent { reached, probes } => FirstHit::Spent {
+            tick: tick(reached),
+            probes,
+        },
+    };
+    hit.number()
+}
+
+/// A host with its running totals.
+#[derive(Default)]
+pub struct Host {
+    /// As the archive leaves them.
+    lent: [u32; 3],
+    /// As the reference has them.
+    totals: Totals,
+}
+
+impl Host {
+    /// The totals after a casting call with these probes, or refused.
+    fn count(&mut self, probes: Option<u32>) {
+        self.totals = self.totals.after(probes);
+        let Totals {
+            casts,
+            probes,
+            refusals,
+        } = self.totals;
+        assert_eq!(self.lent, [casts, probes, refusals]);
+    }
+
+    /// A full cast, and the marks it leaves; no byte is one beforehand.
+    pub fn full_cast(
+        &mut self,
+        file: &[u8],
+        ray: &Ray,
+        budget: u32,
+        room: usize,
+    ) -> (FullCast, Vec<u8>) {
+        let (answer, bytes) = in_guards(room, |b| full_cast_by::<ExactField>(file, ray, budget, b));
+        let expected = (answer.number(), bytes);
+        let copy = file.to_vec();
+        let plain = in_guards(room, |b| entries::full_cast(&copy, ray, budget, b));
+        let totals = &mut self.lent;
+        let counted = in_guards(room, |b| {
+            exact_entries::full_cast_counted(&copy, ray, budget, b, totals)
+        });
+        assert_eq!(plain, expected, "{ray:?} {budget} {file:?}");
+        assert_eq!(counted, expected, "{ray:?} {budget} {file:?}");
+        assert_eq!(copy, file);
+        self.count(answer.probes());
+        let marks = expected.1.into_iter().filter(|&byte| byte < 4);
+        (answer, marks.collect())
+    }
+
+    /// A first hit.
+    pub fn first_hit(&mut self, file: &[u8], ray: &Ray, budget: u32) -> FirstHit {
+        let answer = first_hit_by::<ExactField>(file, ray, budget);
+        let copy = file.to_vec();
+        let plain = entries::first_hit(&copy, ray, budget);
+        let counted = exact_entries::first_hit_counted(&copy, ray, budget, &mut self.lent);
+        let expected = [answer.number(); 2];
+        assert_eq!([plain, counted], expected, "{ray:?} {budget} {file:?}");
+        assert_eq!(copy, file);
+        self.count(answer.probes());
+        answer
+    }
+
+    /// A column.
+    pub fn column(&mut self, file: &[u8], ray: &Ray, room: usize) -> Column {
+        let (answer, bytes) = in_guards(room, |b| column_by::<ExactField>(file, ray, b));
+        let expected = (answer.number(), bytes);
+        let copy = file.to_vec();
+        let plain = in_guards(room, |b| entries::column(&copy, ray, b));
+        let totals = &mut self.lent;
+        let counted = in_guards(room, |b| {
+            exact_entries::column_counted(&copy, ray, b, totals)
+        });
+        assert_eq!(plain, expected, "{ray:?} {file:?}");
+        assert_eq!(counted, expected, "{ray:?} {file:?}");
+        assert_eq!(copy, file);
+        self.count(answer.probes());
+        answer
+    }
+
+    /// A viewer's first hit.
+    pub fn viewer_first_hit(&mut self, file: &[u8], ray: &ViewRay, budget: u32) -> ViewerHit {
+        let answer = viewer_first_hit_by::<ExactField>(file, *ray, budget);
+        let copy = file.to_vec();
+        let plain = exact_entries::viewer_first_hit(&copy, ray, budget);
+        let totals = &mut self.lent;
+        let counted = exact_entries::viewer_first_hit_counted(&copy, ray, budget, totals);
+        let expected = [viewer_number(answer); 2];
+        let ends = [ray.a, ray.b].map(|end| end.map(f32::to_bits));
+        assert_eq!([plain, counted], expected, "{ends:08x?} {budget} {file:?}");
+        assert_eq!(copy, file);
+        self.count(answer.probes());
+        answer
+    }
+}
+
+/// A check of a file: its node count and iso-value.
+pub fn check(file: &[u8]) -> Result<(u32, u32), u32> {
+    let answer = part::check(file);
+    let expected = match answer {
+        Ok((nodes, iso)) => 4_294_967_296 + u64::from(nodes) * 65_536 + u64::from(iso),
+        Err(number) => u64::from(number),
+    };
+    let copy = file.to_vec();
+    assert_eq!(exact_entries::check(&copy), expected, "{file:?}");
+    assert_eq!(copy, file);
+    answer
+}
+
+/// The bounds at a place.
+pub fn place_bounds(file: &[u8], at: [i32; 3]) -> Result<Bounds, u32> {
+    let answer = bounds_at(file, at);
+    let expected = match answer {
+        Ok(Bounds { low, high }) => (65_536, [low, high]),
+        Err(number) => (number, BEFORE),
+    };
+    let copy = file.to_vec();
+    let mut bounds = BEFORE;
+    let number = exact_entries::place_bounds(&copy, at, &mut bounds);
+    assert_eq!((number, bounds), expected, "{at:?} {file:?}");
+    assert_eq!(copy, file);
+    answer
+}
