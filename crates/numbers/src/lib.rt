@@ -17,7 +17,7 @@ ghost use mathlib.Core.Path.{_≡_};
 ghost use Prim.Native.Nat.{_^_, _<_};
 ghost use Rattle.halving.specs.Numbers.{castNumber, hitNumber};
 ghost use Rattle.cast.specs.Column.{columnNumber};
-ghost use Rattle.numbers.specs.Numbers.{rayOf, viewRayOf, checkNumber, boundsNumber, boundsLeft, lentAfter};
+ghost use Rattle.numbers.specs.Numbers.{rayOf, viewRayOf, checkNumber, boundsNumber, boundsLeft, totalsIn, totalsOut, lentAfter};
 
 // What k counts in a number, and what a tick or the node count does: 2³² and 65,536.
 pub const CASE: u64 = 4294967296;
@@ -119,15 +119,27 @@ pub fn bounds_number(answer: BoundsAnswer, lent: &mut [i64; 2]) -> u32
     }
 }
 
-// Counts a call in the lent totals.
-pub fn count_lent(tally: Tally, lent: &mut [u32; 3])
-    ensures { λ _. ⌜ now (lent .exit) ≡ lentAfter tally (now (lent .entry)) ⌝ }
+// ---- the running totals, lent as three numbers
+
+pub fn totals_in(lent: &[u32; 3]) -> Totals
+    ensures { λ r. ⌜ r ≡ totalsIn (now (lent .entry)) ⌝ }
 {
-    let totals = Totals {
+    Totals {
         casts: lent[0],
         probes: lent[1],
         refusals: lent[2],
-    };
-    let after = count(totals, tally);
-    *lent = [after.casts, after.probes, after.refusals];
+    }
+}
+
+pub fn put_totals(totals: Totals, lent: &mut [u32; 3])
+    ensures { λ _. ⌜ now (lent .exit) ≡ totalsOut totals ⌝ }
+{
+    *lent = [totals.casts, totals.probes, totals.refusals];
+}
+
+// Counts a call.
+pub fn count_lent(tally: Tally, lent: &mut [u32; 3])
+    ensures { λ _. ⌜ now (lent .exit) ≡ lentAfter tally (now (lent .entry)) ⌝ }
+{
+    put_totals(count(totals_in(lent), tally), lent);
 }
