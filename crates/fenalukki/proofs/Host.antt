@@ -1,5 +1,5 @@
--- From what a call promises of its answer to what the host gets with the answer's number, for a place or a ray that is the host's; and what is left in
--- the totals that it lent.
+-- From what a call promises of its answer to what the host gets with the answer's number, for a place or a ray that is the host's; and what is left
+-- in the totals that it lent.
 use mathlib.Core.Path.{_≡_, ap, subst, sym, _∙_}
 use mathlib.Core.List.{List}
 use Prim.Native.Nat.{ℕ, _^_}
@@ -53,7 +53,8 @@ module _ (file : List ℕ) {ray hosts : Ray} (same : ray ≡ hosts) where
       (record { number-is = is ∙ ap columnNumber answer; bytes = bytes; demands = rw (← answer) demands })
 
   module _ (totals : List ℕ) {left : List ℕ} {tally : Tally} (is : left ≡ lentAfter tally totals) where
-    pub cast-counted : (budget : ℕ) (lent : List ℕ) (w : CastAnswer) {after : List ℕ} → CastPromised file ray budget lent w after → tally ≡ castTally w
+    pub cast-counted : (budget : ℕ) (lent : List ℕ) (w : CastAnswer) {after : List ℕ}
+        → CastPromised file ray budget lent w after → tally ≡ castTally w
         → left ≡ lentAfter (castTally (fullCast file hosts budget (length lent))) totals
     cast-counted budget lent w p t = left-is castTally totals (p .0 ∙ ap (λ (ray : Ray). fullCast file ray budget (length lent)) same) t is
 

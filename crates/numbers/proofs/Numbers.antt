@@ -94,11 +94,13 @@ module _ (file : List ℕ) where
   -- ---- the viewer's first hit
 
   module _ (ray : ViewRay) (k : ℕ) (few : 2 ^ k ≤ 4096) (budget : ℕ) where
-    pub view-number-fits : (a : HitAnswer) → a ≡ viewerTicks k file ray budget → ViewDemands file ray k budget (viewOf (2 ^ k) a) → hitNumber a < 2 ^ 64
+    pub view-number-fits : (a : HitAnswer) → a ≡ viewerTicks k file ray budget → ViewDemands file ray k budget (viewOf (2 ^ k) a)
+        → hitNumber a < 2 ^ 64
     unfolding viewOf inTicks CountedView CountedHit hitNumber
     view-number-fits a e d = go a (subst (AloneHit (solidOf file) (stepsRay ray) (2 ^ k)) (d .ticks ∙ sym e) (d .alone)) (d .counted)
       where
-        go : (a : HitAnswer) → AloneHit (solidOf file) (stepsRay ray) (2 ^ k) a → CountedView file ray k budget (viewOf (2 ^ k) a) → hitNumber a < 2 ^ 64
+        go : (a : HitAnswer) → AloneHit (solidOf file) (stepsRay ray) (2 ^ k) a → CountedView file ray k budget (viewOf (2 ^ k) a)
+            → hitNumber a < 2 ^ 64
         go (found.Refused n) alone c = elim c [ inl c ↦ omega (arith, c .1) | inr c ↦ elim c [ inl c ↦ omega (arith, c) | inr c ↦ omega (arith, c) ] ]
         go (found.Hit t s p) alone c = hit-number-fits (solidOf file) (stepsRay ray) k few budget (found.Hit t s p) alone c
         go (found.Clear p) alone c = hit-number-fits (solidOf file) (stepsRay ray) k few budget (found.Clear p) alone c

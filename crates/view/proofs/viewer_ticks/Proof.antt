@@ -29,4 +29,6 @@ viewer-ticks-spec =
     (λ c.
     let b = c .before .before .before in
     ticks-promised _ _ _ (sym (ticks-refused _ _ _ (fraction b) (sym (b .check .ensures .0) ∙ c .before .number .given .1))))
-    (λ c. let b = c .before .before in ticks-promised _ _ _ (sym (ticks-15 _ _ _ (fraction b) (sym (b .check .ensures .0) ∙ c .enum-told2 .given .1)))))
+    (λ c.
+    let b = c .before .before in
+    ticks-promised _ _ _ (sym (ticks-15 _ _ _ (fraction b) (sym (b .check .ensures .0) ∙ c .enum-told2 .given .1)))))
