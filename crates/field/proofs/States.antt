@@ -1,5 +1,5 @@
--- The state of bounds: what it says of them (`empty-high`, `inside-low`) and of a number that they enclose (`crossing-near`, `state-sound`), and which
--- bounds have it (`empty-state`, `inside-state`).
+-- The state of bounds: what it says of them (`empty-high`, `inside-low`) and of a number that they enclose (`crossing-near`, `state-sound`), and
+-- which bounds have it (`empty-state`, `inside-state`).
 use mathlib.Core.Path.{_≡_, refl, sym, subst}
 use mathlib.Core.Logic.{_⊎_, inl, inr}
 use mathlib.Core.Bool.{Bool, true, false, cond}
