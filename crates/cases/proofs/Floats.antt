@@ -67,11 +67,11 @@ taken = refl
 
 -- ---- calls on file K: one point at the origin, r 512, w 4, iso 1
 
-abbrev float : ℕ → Float
+abbrev pub float : ℕ → Float
 float bits = ofBits binary32 bits
 
 -- a ray along x at some y, z = 0, by the floats' bits
-abbrev along : ℕ → ℕ → ℕ → ViewRay
+abbrev pub along : ℕ → ℕ → ℕ → ViewRay
 along from to y = record {
   start = record { x = float from; y = float y; z = float 0 };
   end = record { x = float to; y = float y; z = float 0x8000_0000 };

@@ -1,3 +1,4 @@
 pub mod Files
 pub mod Rays
 pub mod Floats
+pub mod Refuted

@@ -73,14 +73,14 @@ badMark =
     1 ∷ 0 ∷ 0 ∷ 2 ∷ 0 ∷ 0 ∷ 0 ∷ 0 ∷ 0 ∷ 0 ∷ 4 ∷ 0
     ∷ 0x01 ∷ 0x00 ∷ 0x02 ∷ 0x00 ∷ 0x18 ∷ 0x00 ∷ 0x00 ∷ 0x00 ∷ 0x54 ∷ 0x52 ∷ 0x45 ∷ 0x44 ∷ []
 
-abbrev at : ℤ → ℤ → Position
+abbrev pub at : ℤ → ℤ → Position
 at x y = record { x = x; y = y; z = pos 0 }
 
 abbrev lowHigh : ℤ → ℤ → Answer
 lowHigh low high = bounded (place.Bounded (record { low = low; high = high }))
 
 -- "(−1024, 0, 0) to (1024, 0, 0)", at some y
-abbrev across : ℤ → Ray
+abbrev pub across : ℤ → Ray
 across y = record { start = at (negℤ (pos 1024)) y; end = at (pos 1024) y }
 
 unfoldable pub rows : List (Call × Answer)

@@ -12,7 +12,7 @@ use Rattle.field.specs.Ray.{tick, ticks, Ordered}
 use Rattle.field.specs.Solid.{Solid, Valid}
 use Rattle.field.specs.Bounds.{treeBounds}
 use Rattle.field.specs.Marks.{spanState, markOf}
-use Rattle.field.proofs.States.{state-is}
+use Rattle.field.proofs.States.{three-states}
 use Rattle.field.proofs.Nested.{tick-nested}
 use Rattle.halving.specs.Halving.{Nested}
 use Rattle.halving.proofs.Halving.{marks-at}
@@ -25,9 +25,9 @@ ordered i n h = record { ticks-low = h; order = omega arith }
 -- a mark is 0, 1 or 2
 pub mark-few : (solid : Solid) (ray : Ray) (T t : ℕ) → markOf solid ray T t ≤ 2
 unfolding markOf spanState
-mark-few solid ray T t = elim (state-is (solid .iso) (treeBounds solid ray (tick t T))) [
-  | inl c ↦ omega (arith, c .1)
-  | inr c ↦ elim c [ inl c ↦ omega (arith, c .1) | inr c ↦ omega (arith, c .2) ]
+mark-few solid ray T t = elim (three-states (solid .iso) (treeBounds solid ray (tick t T))) [
+  | inl c ↦ omega (arith, c)
+  | inr c ↦ elim c [ inl c ↦ omega (arith, c) | inr c ↦ omega (arith, c) ]
 ]
 
 -- a tick's state is its mark
@@ -40,9 +40,9 @@ module _ (solid : Solid) (valid : Valid solid) (ray : Ray) where
   unfolding rayState spanState
   ray-nested {T} h i n j decided from before =
       let d = tick-nested solid valid ray (ordered i n h) j from before in
-      elim (state-is (solid .iso) (treeBounds solid ray (ticks i n T))) [
-        | inl c ↦ d .empty (c .1) ∙ sym (c .1)
-        | inr c ↦ elim c [ inl c ↦ d .inside (c .1) ∙ sym (c .1) | inr c ↦ absurd (decided (c .2)) ]
+      elim (three-states (solid .iso) (treeBounds solid ray (ticks i n T))) [
+        | inl c ↦ d .empty c ∙ sym c
+        | inr c ↦ elim c [ inl c ↦ d .inside c ∙ sym c | inr c ↦ absurd (decided c) ]
       ]
 
   pub ray-marks-at : (k t d : ℕ) → t < 2 ^ k → getD (rayMarks solid ray k) t d ≡ markOf solid ray (2 ^ k) t

@@ -38,14 +38,14 @@ pub fn is_between_signed(low: i32, high: i32, z: i32) -> bool
 pub fn min_u64(x: u64, y: u64) -> u64
     ensures { λ r. ⌜ r ≡ min x y ⌝ }
 {
-    if x < y { x } else { y }
+    if y < x { y } else { x }
 }
 
 // The greater of two numbers.
 pub fn max_u64(x: u64, y: u64) -> u64
     ensures { λ r. ⌜ r ≡ max x y ⌝ }
 {
-    if x < y { y } else { x }
+    if y < x { x } else { y }
 }
 
 // The lesser of two signed numbers.

@@ -1,13 +1,13 @@
--- The state of bounds: what it says of them (`empty-high`, `inside-low`, `crossing-ends`), which bounds have it (`empty-state`, `inside-state`), and
--- what it says of a number that they enclose (`state-sound`).
-use mathlib.Core.Path.{_≡_, refl, sym, _∙_, subst}
+-- The state of bounds: what it says of them (`empty-high`, `inside-low`) and of a number that they enclose (`crossing-near`, `state-sound`), and
+-- which bounds have it (`empty-state`, `inside-state`).
+use mathlib.Core.Path.{_≡_, refl, sym, subst}
 use mathlib.Core.Logic.{_⊎_, inl, inr}
 use mathlib.Core.Bool.{Bool, true, false, cond}
 use Prim.Native.Nat.{ℕ}
 use native.Mathlib.Omega.{arith}
 use lib.IntN.{ℤ, pos, natAbs, _-ℤ_, _*ℤ_}
 use lib.Signed.{leZ, ltZ, _≤ℤ_, _<ℤ_, clashℤ}
-use Rattle.exact.specs.Fraction.{Fraction}
+use Rattle.exact.specs.Fraction.{Fraction, _≼_, apart}
 use Rattle.exact.proofs.Ring.{_⊕_, _⊖_, ⊝_, _⊗_, #}
 use Rattle.exact.proofs.Order.{nn-pos, <ℤ-le, ≤ℤ-trans, mul-cancel-le, mul-mono-lt, le-or-lt, pos-mono-lt}
 use Rattle.exact.proofs.Absolute.{natAbs-is}
@@ -15,57 +15,30 @@ use Rattle.exact.proofs.Certificates.{_≦_by_, le, nn}
 use Rattle.exact.proofs.Tests.{leZ-true, leZ-false, ltZ-true, ltZ-false, le-leZ, lt-ltZ, le-ltZ}
 use Rattle.field.specs.declared.Bounds.{Bounds}
 use Rattle.field.specs.Kernel.{fixedOne}
-use Rattle.field.specs.Bounds.{Encloses, NoWider, level, stateOf}
+use Rattle.field.specs.Bounds.{Encloses, NoWider, emptyMark, crossingMark, insideMark, level, stateOf}
 use Rattle.field.specs.Marks.{SoundMark}
 use Rattle.field.proofs.Points.{one-pos}
 
-abbrev pick : Bool → Bool → ℕ
-pick below above = cond below 0 (cond above 2 1)
+-- a number picked by two tests, with what the tests were
+picked : (t u : Bool) {x y z n : ℕ} → cond t x (cond u y z) ≡ n
+    → ((t ≡ true) × (x ≡ n)) ⊎ (((u ≡ true) × (y ≡ n)) ⊎ ((t ≡ false) × (u ≡ false) × (z ≡ n)))
+picked true u e = inl (refl, e)
+picked false true e = inr (inl (refl, e))
+picked false false e = inr (inr (refl, refl, e))
 
--- the three cases, with what each says of the bounds
-pub state-is : (iso : ℕ) (b : Bounds)
-    → ((b .high <ℤ level iso) × (stateOf iso b ≡ 0))
-    ⊎ (((level iso ≤ℤ b .low) × (stateOf iso b ≡ 2))
-    ⊎ ((b .low <ℤ level iso) × (level iso ≤ℤ b .high) × (stateOf iso b ≡ 1)))
+pub empty-high : (iso : ℕ) (b : Bounds) → stateOf iso b ≡ emptyMark → b .high <ℤ level iso
 unfolding stateOf
-state-is iso b = go (ltZ (b .high) (level iso)) refl (leZ (level iso) (b .low)) refl
-  where
-    go : (c : Bool) → ltZ (b .high) (level iso) ≡ c → (d : Bool) → leZ (level iso) (b .low) ≡ d
-        → ((b .high <ℤ level iso) × (pick c d ≡ 0))
-        ⊎ (((level iso ≤ℤ b .low) × (pick c d ≡ 2))
-        ⊎ ((b .low <ℤ level iso) × (level iso ≤ℤ b .high) × (pick c d ≡ 1)))
-    go true e d f = inl (ltZ-true (b .high) (level iso) e, refl)
-    go false e true f = inr (inl (leZ-true (level iso) (b .low) f, refl))
-    go false e false f = inr (inr (leZ-false (level iso) (b .low) f, ltZ-false (b .high) (level iso) e, refl))
-
-clash : {s c d : ℕ} → s ≡ c → s ≡ d → (c ≡ d → ⊥) → ⊥
-clash p q f = f (sym p ∙ q)
-
-pub empty-high : (iso : ℕ) (b : Bounds) → stateOf iso b ≡ 0 → b .high <ℤ level iso
-empty-high iso b g = elim (state-is iso b) [
-  | inl k ↦ k .0
-  | inr k ↦ absurd (elim k [ inl k ↦ clash g (k .1) (λ e. omega arith) | inr k ↦ clash g (k .2) (λ e. omega arith) ])
+empty-high iso b g = elim (picked (ltZ (b .high) (level iso)) (leZ (level iso) (b .low)) g) [
+  | inl k ↦ ltZ-true (b .high) (level iso) (k .0)
+  | inr k ↦ absurd (elim k [ inl k ↦ omega (arith, k .1) | inr k ↦ omega (arith, k .2) ])
 ]
 
-pub inside-low : (iso : ℕ) (b : Bounds) → stateOf iso b ≡ 2 → level iso ≤ℤ b .low
-inside-low iso b g = elim (state-is iso b) [
-  | inl k ↦ absurd (clash g (k .1) (λ e. omega arith))
-  | inr k ↦ elim k [ inl k ↦ k .0 | inr k ↦ absurd (clash g (k .2) (λ e. omega arith)) ]
-]
-
-pub crossing-ends : (iso : ℕ) (b : Bounds) → stateOf iso b ≡ 1 → (b .low <ℤ level iso) × (level iso ≤ℤ b .high)
-crossing-ends iso b g = elim (state-is iso b) [
-  | inl k ↦ absurd (clash g (k .1) (λ e. omega arith))
-  | inr k ↦ elim k [ inl k ↦ absurd (clash g (k .1) (λ e. omega arith)) | inr k ↦ (k .0, k .1) ]
-]
-
-pub empty-state : (iso : ℕ) (b : Bounds) → b .high <ℤ level iso → stateOf iso b ≡ 0
+pub inside-low : (iso : ℕ) (b : Bounds) → stateOf iso b ≡ insideMark → level iso ≤ℤ b .low
 unfolding stateOf
-empty-state iso b h = rw (lt-ltZ (b .high) (level iso) h)
-
-pub inside-state : (iso : ℕ) (b : Bounds) → b .low ≤ℤ b .high → level iso ≤ℤ b .low → stateOf iso b ≡ 2
-unfolding stateOf
-inside-state iso b o h = rw (le-ltZ (b .high) (level iso) (≤ℤ-trans h o), le-leZ (level iso) (b .low) h)
+inside-low iso b g = elim (picked (ltZ (b .high) (level iso)) (leZ (level iso) (b .low)) g) [
+  | inl k ↦ absurd (omega (arith, k .1))
+  | inr k ↦ elim k [ inl k ↦ leZ-true (level iso) (b .low) (k .0) | inr k ↦ absurd (omega (arith, k .2)) ]
+]
 
 -- ---- the three claims, from the bounds l and h: n/d is the field, z/c the tolerance, s the unit, i the iso-value
 module _ (l h n d z c s i : ℤ) (hd : pos 0 <ℤ d) (hc : pos 0 ≤ℤ c) (hs : pos 0 <ℤ s) (lo : (l *ℤ d) ≤ℤ (n *ℤ s)) (hi : (n *ℤ s) ≤ℤ (h *ℤ d)) where
@@ -89,28 +62,59 @@ module _ (l h n d z c s i : ℤ) (hd : pos 0 <ℤ d) (hc : pos 0 ≤ℤ c) (hs :
   ]
 
 -- bounds that enclose the field and are no wider than the tolerance
-pub state-sound : (iso : ℕ) (b : Bounds) (x y : Fraction) → Encloses b x → NoWider b y → SoundMark iso (stateOf iso b) x y
-state-sound iso b x y e w = record {
-  proper = (e .proper, w .proper);
-  empty = λ g. record {
-    cross = below (b .low) (b .high) (x .num) (pos (x .den)) (y .num) (pos (y .den)) (pos fixedOne) (pos iso)
-        dx dy ds (e .above .cross) (e .below .cross) (empty-high iso b g);
-  };
-  inside = λ g. record {
-    cross = above (b .low) (b .high) (x .num) (pos (x .den)) (y .num) (pos (y .den)) (pos fixedOne) (pos iso)
-        dx dy ds (e .above .cross) (e .below .cross) (inside-low iso b g);
-  };
-  crossing = λ g. let k = crossing-ends iso b g in record {
-    cross = near (b .low) (b .high) (x .num) (pos (x .den)) (y .num) (pos (y .den)) (pos fixedOne) (pos iso)
-        dx dy ds (e .above .cross) (e .below .cross) (<ℤ-le (k .0)) (k .1) (w .width .cross);
-  };
-}
-  where
-    dx : pos 0 <ℤ pos (x .den)
-    dx = pos-mono-lt (e .proper)
+module _ (iso : ℕ) (b : Bounds) (x y : Fraction) (e : Encloses b x) (w : NoWider b y) where
+  dx : pos 0 <ℤ pos (x .den)
+  dx = pos-mono-lt (e .proper)
 
-    dy : pos 0 ≤ℤ pos (y .den)
-    dy = nn-pos (y .den)
+  dy : pos 0 ≤ℤ pos (y .den)
+  dy = nn-pos (y .den)
 
-    ds : pos 0 <ℤ pos fixedOne
-    ds = pos-mono-lt one-pos
+  ds : pos 0 <ℤ pos fixedOne
+  ds = pos-mono-lt one-pos
+
+  -- demand 3's distance
+  crossing-near : stateOf iso b ≡ crossingMark → apart x (pos iso) ≼ y
+  unfolding stateOf
+  crossing-near g = elim (picked (ltZ (b .high) (level iso)) (leZ (level iso) (b .low)) g) [
+    | inl k ↦ absurd (omega (arith, k .1))
+    | inr k ↦ elim k [
+      | inl k ↦ absurd (omega (arith, k .1))
+      | inr k ↦ record {
+        cross = near (b .low) (b .high) (x .num) (pos (x .den)) (y .num) (pos (y .den)) (pos fixedOne) (pos iso)
+            dx dy ds (e .above .cross) (e .below .cross) (<ℤ-le (leZ-false (level iso) (b .low) (k .1)))
+            (ltZ-false (b .high) (level iso) (k .0)) (w .width .cross);
+      }
+    ]
+  ]
+
+  pub state-sound : SoundMark iso (stateOf iso b) x y
+  state-sound = record {
+    proper = (e .proper, w .proper);
+    empty = λ g. record {
+      cross = below (b .low) (b .high) (x .num) (pos (x .den)) (y .num) (pos (y .den)) (pos fixedOne) (pos iso)
+          dx dy ds (e .above .cross) (e .below .cross) (empty-high iso b g);
+    };
+    inside = λ g. record {
+      cross = above (b .low) (b .high) (x .num) (pos (x .den)) (y .num) (pos (y .den)) (pos fixedOne) (pos iso)
+          dx dy ds (e .above .cross) (e .below .cross) (inside-low iso b g);
+    };
+    crossing = crossing-near;
+  }
+
+-- ---- which state bounds have
+
+pub empty-state : (iso : ℕ) (b : Bounds) → b .high <ℤ level iso → stateOf iso b ≡ 0
+unfolding stateOf
+empty-state iso b h = rw (lt-ltZ (b .high) (level iso) h)
+
+pub inside-state : (iso : ℕ) (b : Bounds) → b .low ≤ℤ b .high → level iso ≤ℤ b .low → stateOf iso b ≡ 2
+unfolding stateOf
+inside-state iso b o h = rw (le-ltZ (b .high) (level iso) (≤ℤ-trans h o), le-leZ (level iso) (b .low) h)
+
+-- one of the three
+pub three-states : (iso : ℕ) (b : Bounds) → (stateOf iso b ≡ emptyMark) ⊎ ((stateOf iso b ≡ insideMark) ⊎ (stateOf iso b ≡ crossingMark))
+unfolding stateOf
+three-states iso b = elim (picked (ltZ (b .high) (level iso)) (leZ (level iso) (b .low)) {x = emptyMark} {y = insideMark} {z = crossingMark} refl) [
+  | inl k ↦ inl (sym (k .1))
+  | inr k ↦ inr (elim k [ inl k ↦ inl (sym (k .1)) | inr k ↦ inr (sym (k .2)) ])
+]

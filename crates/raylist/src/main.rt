@@ -16,12 +16,16 @@ use listing::file_start;
 use listing::print_number;
 use record::i16_at;
 use record::u16_at;
+ghost use mathlib.Core.Path.{_≡_};
 ghost use Prim.Native.Nat.{_+_, _≤_, _<_};
 ghost use lib.ListN.{length};
+ghost use Rattle.raylist.specs.Input.{positionAt};
+ghost use Rattle.raylist.specs.Runs.{Run};
 
 // The place whose three numbers stand from a byte on.
 fn position_at(input: &[u8], at: usize) -> Position
     requires { ⌜ at + 6 ≤ length (now input) ⌝ }
+    ensures { λ r. ⌜ r ≡ positionAt (now (input .entry)) at ⌝ }
 {
     Position {
         x: i16_at(input, at),
@@ -33,7 +37,7 @@ fn position_at(input: &[u8], at: usize) -> Position
 // The tick after the run that starts at a tick.
 fn run_end(marks: &[u8], first: usize) -> usize
     requires { ⌜ first < length (now marks) ⌝ }
-    ensures { λ r. ⌜ (first < r) × (r ≤ length (now (marks .entry))) ⌝ }
+    ensures { λ r. ⌜ Run (now (marks .entry)) first r ⌝ }
 {
     let mut after = first + 1;
     while after < marks.len() && marks[after] == marks[first] {

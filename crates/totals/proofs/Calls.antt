@@ -55,12 +55,12 @@ module _ (file : List ℕ) (c : ViewCall) {r : ViewAnswer} where
 pub totals-after : {file : List ℕ} {c : Call} {lent : List ℕ} {r : Answer} {after : List ℕ} (t : Totals) {t′ : Totals}
     → Performed file c lent r after → t′ ≡ afterTally t (tallyOf r) → t′ ≡ totalsAfter file c (length lent) t
 unfolding totalsAfter
-totals-after t p e = rw (← p .answer) e
+totals-after t p e = e ∙ ap (λ (r : Answer). afterTally t (tallyOf r)) (p .answer)
 
 pub totals-after-view : {file : List ℕ} {c : ViewCall} {r : ViewAnswer} (t : Totals) {t′ : Totals}
     → Viewed file c r → t′ ≡ afterTally t (viewTally r) → t′ ≡ totalsAfterView file c t
 unfolding totalsAfterView
-totals-after-view t v e = rw (← v .answer) e
+totals-after-view t v e = e ∙ ap (λ (r : ViewAnswer). afterTally t (viewTally r)) (v .answer)
 
 -- ---- laws
 
