@@ -5,9 +5,9 @@
 mod prototypes;
 
 use prototypes::{c_entries, rattle_entries, Entry};
-use reference::cast::{Column, FirstHit, FullCast, Mark};
+use reference::cast::{self, Column, FirstHit, FullCast, Mark};
 use reference::generate::SplitMix64;
-use reference::part;
+use reference::part::{self, FileBuilder};
 use std::collections::{BTreeMap, BTreeSet};
 use std::fs;
 use std::io::Write;
@@ -126,6 +126,83 @@ fn the_archive_has_these_entries_and_needs_memset() {
     let declared: BTreeSet<String> = header_entries().into_keys().collect();
     assert_eq!(names("--defined-only"), declared);
     assert_eq!(names("--undefined-only"), ["memset".to_string()].into());
+}
+
+/// The value of a name of the header.
+fn named(name: &str) -> u32 {
+    let header = read("include/fenalukki.h");
+    let line = header
+        .split_once(&format!("#define FENALUKKI_{name} "))
+        .expect(name);
+    let digits = line.1.split(|c: char| !c.is_ascii_digit()).next();
+    digits.and_then(|digits| digits.parse().ok()).expect(name)
+}
+
+/// The check's answer to a file of one point.
+fn check_point(r: u32, x: i32, w: i32, iso: u32) -> Result<(u32, u32), u32> {
+    let file = FileBuilder::new(iso as u16);
+    part::check(&file.point(r as u16, [0, x as i16, 0], w as i16).build())
+}
+
+/// Points, of which all but one are joined as they come or at the end.
+fn check_points(points: u32, joined: bool) -> Result<(u32, u32), u32> {
+    let add = |file: FileBuilder, i| {
+        let file = file.point(1, [0; 3], 1);
+        if joined && i > 0 {
+            file.sum()
+        } else {
+            file
+        }
+    };
+    let file = (0..points).fold(FileBuilder::new(1), add);
+    let joins = if joined { 0 } else { points - 1 };
+    part::check(&(0..joins).fold(file, |file, _| file.sum()).build())
+}
+
+fn check_length(length: u32) -> Result<(u32, u32), u32> {
+    let file = FileBuilder::new(1).point(1, [0; 3], 1);
+    let leading = length.saturating_sub(24) as usize;
+    let file = file.leading(&vec![0xee; leading]).build();
+    part::check(&file[..length as usize])
+}
+
+/// A name that stands for a limit of the file is the last value that passes.
+#[test]
+fn the_names_of_limits() {
+    let (reach, weight) = (named("COORDINATE_MAX") as i32, named("WEIGHT_MAX") as i32);
+    let (radius, iso) = (named("RADIUS_MAX"), named("ISO_MAX"));
+    assert_eq!(check_point(radius, reach, weight, iso), Ok((1, iso)));
+    assert_eq!(check_point(radius, -reach, -weight, iso), Ok((1, iso)));
+    for (r, x, w) in [(1, 0, 0), (0, 1, 0), (0, -1, 0), (0, 0, 1), (0, 0, -1)] {
+        let beyond = |value: i32, more: i32| if more == 0 { 0 } else { value * more + more };
+        let file = check_point(radius + r, beyond(reach, x), beyond(weight, w), iso);
+        assert_eq!(file, Err(8), "{r} {x} {w}");
+    }
+    assert_eq!(check_point(radius, 0, 0, iso + 1), Err(5));
+    let records = named("RECORDS_MAX");
+    assert_eq!(check_points(records.div_ceil(2), true), Ok((records, 1)));
+    assert_eq!(check_points(records.div_ceil(2) + 1, true), Err(4));
+    let held = named("HELD_MAX");
+    assert_eq!(check_points(held, false), Ok((2 * held - 1, 1)));
+    assert_eq!(check_points(held + 1, false), Err(10));
+    let (least, most) = (named("FILE_BYTES_MIN"), named("FILE_BYTES_MAX"));
+    assert_eq!([least, most].map(check_length), [Ok((1, 1)); 2]);
+    assert_eq!([least - 1, most + 1].map(check_length), [Err(1); 2]);
+}
+
+/// Names of what the reference names too.
+#[test]
+fn the_names_of_sizes_and_marks() {
+    assert_eq!(named("TICKS"), cast::TICKS);
+    assert_eq!(named("MARKS_BYTES"), cast::TICKS);
+    assert_eq!(named("COLUMN_BYTES") as usize, cast::COLUMN_BYTES);
+    assert_eq!(named("ENOUGH"), 2 * cast::TICKS - 1);
+    assert_eq!(named("RECORD_BYTES") as usize, part::RECORD);
+    assert_eq!(named("TRAILER_BYTES") as usize, part::RECORD);
+    let marks = [Mark::Empty, Mark::Crossing, Mark::Inside].map(Mark::byte);
+    let names = ["EMPTY", "CROSSING", "INSIDE"].map(named);
+    assert_eq!(names, marks.map(u32::from));
+    assert_eq!(named("NOT_LOOKED_AT"), cast::NOT_LOOKED_AT.into());
 }
 
 /// The words of a line of `readers.c` for a call's number.
@@ -411,6 +488,22 @@ fn the_commands_of_the_format() {
     let mut bash = Command::new("bash");
     let output = bash.arg("-c").arg(script).current_dir(root()).output();
     assert_eq!(text(output.expect("bash")), block(&format, "text"));
+}
+
+/// What the README says that the listers print.
+#[test]
+fn the_listers_of_the_readme() {
+    let readme = read("README.md");
+    for program in ["target/bin/partlist", "(printf"] {
+        let command = indented(&readme, program)[0];
+        let shown = readme.split_once(command).expect("its place").1;
+        let shown = shown.trim_start_matches('\n').lines();
+        let shown: Vec<&str> = shown.map_while(|line| line.strip_prefix("    ")).collect();
+        let mut bash = Command::new("bash");
+        let output = bash.args(["-c", command]).current_dir(root()).output();
+        let output = text(output.expect("bash"));
+        assert_eq!(output.lines().collect::<Vec<_>>(), shown, "{command}");
+    }
 }
 
 /// Paths from the root, and the picture from the document's own folder.
