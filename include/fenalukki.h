@@ -134,7 +134,8 @@
  *
  *     cc host.c $(pkg-config --cflags --libs fenalukki)
  *
- *   examples/tour.c makes every call of this header once.
+ *   examples/tour.c, installed as share/doc/fenalukki/examples/tour.c, makes
+ *   every call of this header and has every refusal answered.
  */
 #ifndef FENALUKKI_H
 #define FENALUKKI_H
