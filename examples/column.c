@@ -4,21 +4,21 @@
 
 int main(int argc, char **argv)
 {
-    static uint8_t part[65537], column[128];
+    static uint8_t part[FENALUKKI_FILE_BYTES_MAX + 1], bits[FENALUKKI_COLUMN_BYTES];
     FILE *file = fopen(argc > 1 ? argv[1] : "examples/parts/k.part", "rb");
     size_t length = file ? fread(part, 1, sizeof part, file) : 0;
-    uint32_t answer = fenalukki_column(part, length, -1024, 0, 0, 1024, 0, 0,
-                                       column, sizeof column);
+    uint32_t answer = fenalukki_column(part, length, -1024, 0, 0, 1024, 0, 0, bits, sizeof bits);
     int i;
 
     if (file)
         fclose(file);
-    if (answer < 65536) {
-        printf("refused %lu\n", (unsigned long)answer);
+    if (fenalukki_refusal(answer)) {
+        fprintf(stderr, "column: %s\n", fenalukki_refusal_text(answer));
+        printf("refused %d\n", fenalukki_refusal(answer));
         return 1;
     }
-    for (i = 0; i < 128; i++) /* eight ticks a sign */
-        putchar(column[i] ? '#' : '.');
-    printf("\nprobes %lu\n", (unsigned long)answer - 65536);
+    for (i = 0; i < FENALUKKI_COLUMN_BYTES; i++) /* eight ticks a sign */
+        putchar(bits[i] ? '#' : '.');
+    printf("\nprobes %lu\n", (unsigned long)fenalukki_probes(answer));
     return 0;
 }

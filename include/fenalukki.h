@@ -1,52 +1,101 @@
 /*
- * Fenalukki: casts of a ray through a part, for the slicing host.
+ * Fenalukki: casts of a ray through a part, for hosts and viewers in C or C++.
  *
- * A part file holds a tree of soft points. A ray runs from end A to end B,
- * whole steps of 1/64 mm each, and is cut into 1,024 equal ticks, 0 to 1,023.
- * Each tick has a mark. If it is empty, the field is below the iso-value at
- * every place of the tick; if it is inside, at or above it at every place. If
- * it is crossing, neither is known, and at every place the field differs from
- * the iso-value by at most the sum, over the part's points, of the size of the
+ * A part is a tree of soft points, handed over as the bytes of a part file.
+ * The field of a point of weight w and radius r, at the distance d from its
+ * centre, is w * (1 - d*d / (r*r))^2 where d < r and 0 elsewhere; fields are
+ * summed, or the greater is taken, and the part is solid where the result is at
+ * least the iso-value. Weight, iso-value and field have one unit. Lengths are
+ * whole steps of 1/64 mm.
+ *
+ * A ray runs from end A to end B and is cut into 1,024 equal ticks, 0 to 1,023;
+ * tick t is the closed stretch from t/1024 to (t + 1)/1024 of the way. Each
+ * tick has a mark. If it is empty, the field is below the iso-value at every
+ * place of the tick; if it is inside, at or above it at every place. If it is
+ * crossing, neither is known, and at every place the field differs from the
+ * iso-value by at most the sum, over the part's points, of the size of the
  * weight times (S/(256 r) + 1/16384), where S adds the sizes of the ray's three
- * coordinate differences and r is the point's radius.
+ * coordinate differences and r is the point's radius in steps.
  *
- * A probe is one working out of the field's bounds over a stretch of ticks. A
- * call's time goes by its probes times the part's records.
+ * The ten entries
  *
- * Link target/staticlib/libfenalukki.a, which "rt staticlib fenalukki" makes
- * for x86-64 Linux; of the C library it needs memset.
+ *   fenalukki_check                      a file's node count and iso-value
+ *   fenalukki_place_bounds               the field's bounds at a place
+ *   fenalukki_full_cast                  the mark of every tick
+ *   fenalukki_first_hit                  the first tick that is not empty
+ *   fenalukki_column                     a bit for each tick, solid or not
+ *   fenalukki_viewer_first_hit           the first hit, by floats in mm
+ *   fenalukki_full_cast_counted          each of the four casting calls,
+ *   fenalukki_first_hit_counted            with running totals
+ *   fenalukki_column_counted
+ *   fenalukki_viewer_first_hit_counted
+ *
+ * They are compiled from code that is proved. What is inline at the end of this
+ * header (readers of the numbers, texts, rounding) is C: it is tested, and is
+ * no part of what is proved.
+ *
+ * The part file
+ *
+ *   docs/FORMAT.md, installed as share/doc/fenalukki/FORMAT.md, says how to
+ *   build one and has a worked file byte by byte. In short: numbers are
+ *   little-endian. Records of 12 bytes are in postfix order: a point adds a
+ *   held value, a sum or a greater replaces the last two by one, and one is
+ *   left at the end.
+ *
+ *     byte 0       kind: 1 point, 2 sum, 3 greater
+ *     byte 1       0
+ *     bytes 2-3    r, unsigned; this and the rest are 0 unless it is a point
+ *     bytes 4-9    x, y, z, signed
+ *     bytes 10-11  w, signed
+ *
+ *   The last 12 bytes of the file are the trailer; bytes before the first
+ *   record are ignored.
+ *
+ *     bytes 0-1    iso-value
+ *     bytes 2-3    version: 1
+ *     bytes 4-7    distance in bytes from the first record's first byte to the
+ *                  file's end: 12 for each record and 12 for the trailer
+ *     bytes 8-11   hexadecimal 54 52 45 45
  *
  * Parameters
  *
  *   file, file_len      the part file's bytes, any bytes at all
- *   ax .. az, bx .. bz  the ray's ends in steps, any numbers
+ *   ax .. az, bx .. bz  the ray's ends: in steps, any numbers, or, in the
+ *                       viewer's calls, in millimetres, any floats
+ *   x, y, z             a place in steps, any numbers
  *   budget              the most probes that the call may make; 2,047 is
  *                       always enough
  *   marks, marks_len    the buffer of a full cast, 1,024 bytes or more
- *   column, column_len  the buffer of a column, 128 bytes or more
+ *   bits, bits_len      the buffer of a column, 128 bytes or more
+ *   bounds              two numbers
+ *   totals              three numbers
  *
  * What the caller owes
  *
  *   Each pointer is valid for its length, for reading, and a buffer's for
  *   writing too. Nothing is read or written through a pointer whose length is
- *   0, and such a pointer may be null. The file and the buffer do not overlap.
- *   Nobody else writes the file, or reads or writes the buffer, during a call.
+ *   0, and such a pointer may be null. bounds and totals have no length: they
+ *   are never null, and valid for two and three numbers. The file, the buffer,
+ *   bounds and totals do not overlap. Nobody else writes the file, or reads or
+ *   writes what is written, during a call.
  *   Nothing else has to be checked beforehand: every other fault is refused.
  *
  * What the caller can count on
  *
- *   Every call comes back, whatever it is handed. It keeps no pointer, no
- *   running totals and no other state, uses no heap and no global data, and
- *   writes nothing but the buffer. Calls may run at the same time on several
- *   threads, on one file too, as long as their buffers differ. A call needs
- *   about 25 KiB of stack, measured on the compiled archive; 64 KiB are tested
- *   to be enough.
+ *   Every call comes back, whatever it is handed. It keeps no pointer and no
+ *   state, uses no heap and no global data, and writes nothing but its buffer,
+ *   bounds or totals. Calls may run at the same time on several threads, on one
+ *   file too, as long as what they write differs. A call needs about 25 KiB of
+ *   stack, measured on the compiled archive; 64 KiB are tested to be enough.
  *
- * Refusal numbers
+ * The number that a call returns
  *
- *   Questions are asked in this order, 6 to 10 of each record in file order;
- *   the first one answered no decides, and its number is returned. A refused
- *   call leaves every byte of the buffer as it was.
+ *   Below 65,536 it is a refusal number; the readers at the end of this header
+ *   take any other apart. A refused call leaves its buffer and bounds as they
+ *   were. Questions are asked in this order, 6 to 10 of each record in file
+ *   order; the first one answered no decides. A check asks 1 to 11, bounds at a
+ *   place 1 to 12, a first hit 1 to 13, a full cast and a column 1 to 14, and a
+ *   viewer's first hit 1 to 11, then 15, then 13.
  *
  *    1  Is the file 24 to 65,536 bytes long?
  *    2  Are its last four bytes hexadecimal 54 52 45 45?
@@ -61,10 +110,32 @@
  *    9  Of a sum or a greater: are at least two values held?
  *   10  Of a point: are fewer than 64 values held before it?
  *   11  Is exactly one value held at the end?
- *   12  Are the ray's coordinates -2,047 to 2,047?
+ *   12  Are the place's or the ray's coordinates -2,047 to 2,047?
  *   13  Do the ray's ends differ?
  *   14  Has the buffer room: 1,024 bytes for marks, 128 for a column?
- *       (A first hit has no buffer and does not ask.)
+ *   15  Is each float finite and 64 times it whole, from -2,047 to 2,047?
+ *
+ * What a call costs
+ *
+ *   A probe is one working out of the field's bounds over a stretch of ticks.
+ *   The time of a cast goes by its probes times the part's records. The most
+ *   are 2,047 probes of 511 records. A full cast of that size, of 256 points and
+ *   255 sums that leave every tick undecided, takes 55 million instructions by
+ *   callgrind, which is 53 for a probe and record, and took 5.3 ms where that
+ *   was measured; no cast tried took more. A column takes the same. A smaller
+ *   budget makes fewer probes and so bounds a call's time. docs/BENCHMARKS.md
+ *   has the figures of other parts.
+ *
+ * Platform
+ *
+ *   The archive libfenalukki.a is for x86-64 Linux; of the C library it needs
+ *   memset alone. This header is C99 and C++. ./install PREFIX places both,
+ *   with a pkg-config file:
+ *
+ *     cc host.c $(pkg-config --cflags --libs fenalukki)
+ *
+ *   examples/tour.c, installed as share/doc/fenalukki/examples/tour.c, makes
+ *   every call of this header and has every refusal answered.
  */
 #ifndef FENALUKKI_H
 #define FENALUKKI_H
@@ -72,9 +143,110 @@
 #include <stddef.h>
 #include <stdint.h>
 
+/* The version of this header and of the archive beside it. The major number
+ * changes where a host has to change, the minor where names are added. */
+#define FENALUKKI_VERSION_MAJOR 1
+#define FENALUKKI_VERSION_MINOR 0
+#define FENALUKKI_VERSION_PATCH 0
+#define FENALUKKI_VERSION "1.0.0"
+#define FENALUKKI_VERSION_NUMBER \
+    (FENALUKKI_VERSION_MAJOR * 10000 + FENALUKKI_VERSION_MINOR * 100 + FENALUKKI_VERSION_PATCH)
+
+/* Rays, and what a call is lent. */
+#define FENALUKKI_TICKS 1024
+#define FENALUKKI_MARKS_BYTES 1024 /* the buffer of a full cast */
+#define FENALUKKI_COLUMN_BYTES 128 /* the buffer of a column */
+#define FENALUKKI_ENOUGH 2047 /* a budget that no cast exceeds */
+#define FENALUKKI_STEPS_PER_MM 64
+#define FENALUKKI_COORDINATE_MAX 2047 /* in steps; the least is its negative */
+
+/* The part file. */
+#define FENALUKKI_FILE_BYTES_MIN 24
+#define FENALUKKI_FILE_BYTES_MAX 65536
+#define FENALUKKI_FILE_VERSION 1
+#define FENALUKKI_RECORD_BYTES 12
+#define FENALUKKI_TRAILER_BYTES 12
+#define FENALUKKI_RECORDS_MAX 511
+#define FENALUKKI_HELD_MAX 64
+#define FENALUKKI_RADIUS_MAX 1024
+#define FENALUKKI_WEIGHT_MAX 4096 /* the least is its negative */
+#define FENALUKKI_ISO_MAX 4096
+#define FENALUKKI_KIND_POINT 1
+#define FENALUKKI_KIND_SUM 2
+#define FENALUKKI_KIND_GREATER 3
+
+/* Marks: a tick's byte after a full cast. */
+#define FENALUKKI_EMPTY 0
+#define FENALUKKI_CROSSING 1
+#define FENALUKKI_INSIDE 2
+#define FENALUKKI_NOT_LOOKED_AT 3
+
+/* k of a first hit's number. */
+#define FENALUKKI_K_CROSSING 1
+#define FENALUKKI_K_INSIDE 2
+#define FENALUKKI_K_CLEAR 3
+#define FENALUKKI_K_SPENT 4
+
+/* The bounds at a place: how many, which is which, and the field 1 in them. */
+#define FENALUKKI_BOUNDS 2
+#define FENALUKKI_BOUNDS_LOW 0
+#define FENALUKKI_BOUNDS_HIGH 1
+#define FENALUKKI_BOUNDS_ONE ((int64_t)1 << 32)
+
+/* The running totals: how many, which is which, and where each one stays. */
+#define FENALUKKI_TOTALS 3
+#define FENALUKKI_TOTALS_CASTS 0
+#define FENALUKKI_TOTALS_PROBES 1
+#define FENALUKKI_TOTALS_REFUSALS 2
+#define FENALUKKI_TOTALS_MAX 4294967295u
+
+/* Refusal numbers, and the greatest of them. */
+#define FENALUKKI_REFUSED_LENGTH 1
+#define FENALUKKI_REFUSED_FILE_MARK 2
+#define FENALUKKI_REFUSED_VERSION 3
+#define FENALUKKI_REFUSED_DISTANCE 4
+#define FENALUKKI_REFUSED_ISO 5
+#define FENALUKKI_REFUSED_KIND 6
+#define FENALUKKI_REFUSED_ZERO_BYTES 7
+#define FENALUKKI_REFUSED_POINT 8
+#define FENALUKKI_REFUSED_TOO_FEW_HELD 9
+#define FENALUKKI_REFUSED_TOO_MANY_HELD 10
+#define FENALUKKI_REFUSED_NOT_ONE_HELD 11
+#define FENALUKKI_REFUSED_COORDINATE 12
+#define FENALUKKI_REFUSED_EQUAL_ENDS 13
+#define FENALUKKI_REFUSED_ROOM 14
+#define FENALUKKI_REFUSED_FLOAT 15
+#define FENALUKKI_REFUSALS 15
+
 #ifdef __cplusplus
 extern "C" {
 #endif
+
+/*
+ * Check of a file: its node count and its iso-value.
+ *
+ * Returns
+ *   1 to 11                          the refusal number
+ *   2^32 + nodes * 65,536 + iso      nodes is the count of records, 1 to 511
+ *
+ * A file that passes is refused by no other call for its bytes.
+ */
+uint64_t fenalukki_check(const uint8_t *file, size_t file_len);
+
+/*
+ * Bounds at a place: two numbers between which the exact field lies there.
+ *
+ * Returns
+ *   1 to 12    the refusal number
+ *   65,536     bounds[0] is the low and bounds[1] the high, in units of 2^-32
+ *
+ * Unless refused, low <= field * 2^32 <= high. Where low is at least
+ * iso * 2^32 the place is solid, where high is below it the place is empty, and
+ * otherwise the bounds leave it open.
+ */
+uint32_t fenalukki_place_bounds(const uint8_t *file, size_t file_len,
+                                int32_t x, int32_t y, int32_t z,
+                                int64_t bounds[2]);
 
 /*
  * Full cast: the mark of every tick, as far as the budget goes.
@@ -120,17 +292,217 @@ uint64_t fenalukki_first_hit(const uint8_t *file, size_t file_len,
  *   1 to 14            the refusal number
  *   65,536 + probes    complete; the probes are those of a full cast
  *
- * Unless refused, bit t mod 8 of byte t / 8 of column (the lowest bit is bit
- * 0) is 1 if tick t is inside or crossing and 0 if it is empty, for t from 0
- * to 1,023. Bytes from 128 on are never written.
+ * Unless refused, bit t mod 8 of byte t / 8 of bits (the lowest bit is bit 0)
+ * is 1 if tick t is inside or crossing and 0 if it is empty, for t from 0 to
+ * 1,023. Bytes from 128 on are never written.
  */
 uint32_t fenalukki_column(const uint8_t *file, size_t file_len,
                           int32_t ax, int32_t ay, int32_t az,
                           int32_t bx, int32_t by, int32_t bz,
-                          uint8_t *column, size_t column_len);
+                          uint8_t *bits, size_t bits_len);
+
+/*
+ * Viewer's first hit: a first hit on a ray that is given in millimetres.
+ *
+ * A camera's coordinates are as a rule no multiples of 1/64 mm, and such a ray
+ * is refused with 15: the call rounds nothing. fenalukki_round_to_step, below,
+ * rounds a coordinate to the nearest step before the call. Minus zero is 0.
+ *
+ * Returns 1 to 11, 13 or 15, the refusal number, or k * 2^32 + tick * 65,536 +
+ * probes, as fenalukki_first_hit does for the ray in steps:
+ *   k = 1   the hit's tick is crossing
+ *   k = 2   the hit's tick is inside
+ *   k = 3   clear: every tick is empty; tick is 0
+ *   k = 4   spent: tick is the one reached, every tick before it is empty, and
+ *           probes is the budget
+ *
+ * The entry of a hit, or the place that a spent call reached, is tick / 1024 of
+ * the way from A to B exactly; fenalukki_place gives it as a float.
+ */
+uint64_t fenalukki_viewer_first_hit(const uint8_t *file, size_t file_len,
+                                    float ax, float ay, float az,
+                                    float bx, float by, float bz,
+                                    uint32_t budget);
+
+/*
+ * The counted calls: each returns the number of the call that it is named for
+ * and leaves the same bytes, whatever the totals are, and adds to the totals.
+ *
+ *   totals[0]   casts: one more, unless refused
+ *   totals[1]   probes: the call's probes more, unless refused
+ *   totals[2]   refusals: one more, if refused
+ *
+ * A total that would pass 4,294,967,295 becomes that number and stays there;
+ * the others go on. The totals are the host's: it sets them to 0 beforehand.
+ */
+uint32_t fenalukki_full_cast_counted(const uint8_t *file, size_t file_len,
+                                     int32_t ax, int32_t ay, int32_t az,
+                                     int32_t bx, int32_t by, int32_t bz,
+                                     uint32_t budget,
+                                     uint8_t *marks, size_t marks_len,
+                                     uint32_t totals[3]);
+
+uint64_t fenalukki_first_hit_counted(const uint8_t *file, size_t file_len,
+                                     int32_t ax, int32_t ay, int32_t az,
+                                     int32_t bx, int32_t by, int32_t bz,
+                                     uint32_t budget,
+                                     uint32_t totals[3]);
+
+uint32_t fenalukki_column_counted(const uint8_t *file, size_t file_len,
+                                  int32_t ax, int32_t ay, int32_t az,
+                                  int32_t bx, int32_t by, int32_t bz,
+                                  uint8_t *bits, size_t bits_len,
+                                  uint32_t totals[3]);
+
+uint64_t fenalukki_viewer_first_hit_counted(const uint8_t *file, size_t file_len,
+                                            float ax, float ay, float az,
+                                            float bx, float by, float bz,
+                                            uint32_t budget,
+                                            uint32_t totals[3]);
 
 #ifdef __cplusplus
 }
 #endif
+
+/*
+ * Readers of the numbers. None of this is proved.
+ */
+
+/* Of any call: its refusal number, or 0 where it was not refused. */
+static inline int fenalukki_refusal(uint64_t number)
+{
+    return number < 65536 ? (int)number : 0;
+}
+
+/* Of a casting call: its probes; 0 where it was refused. */
+static inline uint32_t fenalukki_probes(uint64_t number)
+{
+    return number < 65536 ? 0 : (uint32_t)(number & 0xffff);
+}
+
+/* Of a casting call: 1 if it is spent, else 0. */
+static inline int fenalukki_is_spent(uint64_t number)
+{
+    uint64_t k = number >> 32;
+
+    return k > 0 ? k == FENALUKKI_K_SPENT : number >= 131072;
+}
+
+/* Of the marks that a full cast left, if it was not refused: the tick reached,
+ * which is the first byte that is 3, or 1,024 where none is: complete. */
+static inline int fenalukki_tick_reached(const uint8_t *marks)
+{
+    int tick = 0;
+
+    while (tick < FENALUKKI_TICKS && marks[tick] != FENALUKKI_NOT_LOOKED_AT)
+        tick++;
+    return tick;
+}
+
+/* Of the bits that a column left, if it was not refused: 1 if the tick, 0 to
+ * 1,023, is inside or crossing, 0 if it is empty. */
+static inline int fenalukki_bit(const uint8_t *bits, int tick)
+{
+    return bits[tick / 8] >> (tick % 8) & 1;
+}
+
+/* Of a first hit, the viewer's too: k, 1 to 4; 0 where it was refused. */
+static inline int fenalukki_k(uint64_t number)
+{
+    return (int)(number >> 32);
+}
+
+/* Of a first hit, the viewer's too: the hit's tick or the tick reached; 0 where
+ * it is clear or was refused. */
+static inline int fenalukki_tick(uint64_t number)
+{
+    return (int)(number >> 16 & 0xffff);
+}
+
+/* Of a first hit, the viewer's too: the mark of the hit's tick. Where it is
+ * clear every tick is empty, and the tick that a spent one reached was not
+ * looked at; nor was any where it was refused. */
+static inline int fenalukki_mark(uint64_t number)
+{
+    switch (fenalukki_k(number)) {
+    case FENALUKKI_K_CROSSING:
+        return FENALUKKI_CROSSING;
+    case FENALUKKI_K_INSIDE:
+        return FENALUKKI_INSIDE;
+    case FENALUKKI_K_CLEAR:
+        return FENALUKKI_EMPTY;
+    default:
+        return FENALUKKI_NOT_LOOKED_AT;
+    }
+}
+
+/* Of a first hit, the viewer's too: how far along the ray its tick begins, 0 at
+ * A and 1 at B, without rounding; 0 where it is clear or was refused. */
+static inline float fenalukki_place(uint64_t number)
+{
+    return (float)fenalukki_tick(number) / FENALUKKI_TICKS;
+}
+
+/* Of a check: the file's node count; 0 where it was refused. */
+static inline int fenalukki_nodes(uint64_t number)
+{
+    return (int)(number >> 16 & 0xffff);
+}
+
+/* Of a check: the iso-value; 0 where it was refused. */
+static inline int fenalukki_iso(uint64_t number)
+{
+    return number < 65536 ? 0 : (int)(number & 0xffff);
+}
+
+/* Of any call's number, or of a refusal number alone: why it was refused. */
+static inline const char *fenalukki_refusal_text(uint64_t number)
+{
+    static const char *const texts[FENALUKKI_REFUSALS + 1] = {
+        "no refusal number",
+        "the file is shorter than 24 or longer than 65,536 bytes",
+        "the file's last four bytes are not hexadecimal 54 52 45 45",
+        "the file's version is not 1",
+        "the distance to the first record is outside 24 to 6,144, not a multiple of 12, or more than the file's length",
+        "the iso-value is outside 1 to 4,096",
+        "a record's kind is not 1, 2 or 3",
+        "a record's zero bytes are not all zero",
+        "a point's radius is outside 1 to 1,024, a coordinate outside -2,047 to 2,047, or the weight outside -4,096 to 4,096",
+        "a sum or a greater comes where fewer than two values are held",
+        "a point comes where 64 values are held",
+        "the values held at the end are not exactly one",
+        "a coordinate of the place or ray is outside -2,047 to 2,047",
+        "the ray's ends are equal",
+        "the buffer is smaller than 1,024 bytes for marks or 128 for a column",
+        "a float in millimetres is not a multiple of 1/64 from -2,047/64 to 2,047/64"
+    };
+
+    if (number >= 65536)
+        return "not refused";
+    return texts[number <= FENALUKKI_REFUSALS ? number : 0];
+}
+
+/*
+ * For the viewer's calls. None of this is proved: what is proved speaks of the
+ * ray that is handed over.
+ *
+ * A coordinate in millimetres, rounded to the nearest step; half a step goes
+ * away from zero. What rounds to no step from -2,047 to 2,047 comes back as it
+ * is (beyond the range of a float, as an infinity), and so does a NaN: the call
+ * refuses it with 15. An end moves by less than 0.014 mm, and ends that round
+ * to one place are refused with 13.
+ */
+static inline float fenalukki_round_to_step(double mm)
+{
+    double steps = mm * FENALUKKI_STEPS_PER_MM, rest;
+    int32_t whole;
+
+    if (!(steps > -2047.5 && steps < 2047.5))
+        return (float)mm;
+    whole = (int32_t)steps; /* towards zero */
+    rest = steps - whole; /* exact */
+    whole += (rest >= 0.5) - (rest <= -0.5);
+    return (float)whole / FENALUKKI_STEPS_PER_MM;
+}
 
 #endif

@@ -1,0 +1,626 @@
+//! The interface for C: the header against the Rattle source and against the archive, its inline functions, the tour, the format's
+//! document and the installed files.
+
+#[path = "c_interface/prototypes.rs"]
+mod prototypes;
+
+use prototypes::{c_entries, rattle_entries, Entry};
+use reference::cast::{self, Column, FirstHit, FullCast, Mark};
+use reference::generate::SplitMix64;
+use reference::part::{self, FileBuilder};
+use std::collections::{BTreeMap, BTreeSet};
+use std::fs;
+use std::io::Write;
+use std::path::{Path, PathBuf};
+use std::process::{Command, Output, Stdio};
+
+const WARNINGS: [&str; 4] = ["-Wall", "-Wextra", "-pedantic", "-Werror"];
+
+fn root() -> PathBuf {
+    Path::new(env!("CARGO_MANIFEST_DIR")).join("..")
+}
+
+fn read(name: &str) -> String {
+    fs::read_to_string(root().join(name)).unwrap_or_else(|e| panic!("{name}: {e}"))
+}
+
+/// A file of this test's own.
+fn temporary(name: &str) -> PathBuf {
+    let folder = Path::new(env!("CARGO_TARGET_TMPDIR")).join("c_interface");
+    fs::create_dir_all(&folder).expect("a folder");
+    folder.join(name)
+}
+
+fn text(output: Output) -> String {
+    let errors = String::from_utf8_lossy(&output.stderr).into_owned();
+    assert!(output.status.success(), "{}: {errors}", output.status);
+    String::from_utf8(output.stdout).expect("text")
+}
+
+/// A program of C files of the repository and the archive, compiled without a warning.
+fn compiled(name: &str, compiler: &[&str], sources: &[&str]) -> PathBuf {
+    let program = temporary(name);
+    let mut command = Command::new(compiler[0]);
+    command.args(&compiler[1..]).args(WARNINGS).arg("-I");
+    command.arg(root().join("include"));
+    command.args(sources.iter().map(|source| root().join(source)));
+    // not a source of the language that was named
+    command.args(["-x", "none"]);
+    command.arg(root().join("target/staticlib/libfenalukki.a"));
+    command.arg("-o").arg(&program);
+    text(command.output().expect("a compiler"));
+    program
+}
+
+fn c99(name: &str, sources: &[&str]) -> PathBuf {
+    compiled(name, &["cc", "-std=c99"], sources)
+}
+
+/// What a program prints, given its standard input.
+fn printed(program: &Path, input: &str) -> String {
+    let mut command = Command::new(program);
+    command.stdin(Stdio::piped()).stdout(Stdio::piped());
+    let mut child = command.spawn().expect("starts");
+    let mut to = child.stdin.take().expect("its input");
+    let input = input.to_string();
+    let writing = std::thread::spawn(move || to.write_all(input.as_bytes()));
+    let output = child.wait_with_output().expect("ends");
+    writing.join().expect("written").expect("written");
+    text(output)
+}
+
+fn header_entries() -> BTreeMap<String, Entry> {
+    c_entries(&read("include/fenalukki.h"))
+}
+
+#[test]
+fn the_header_declares_what_the_crate_exports() {
+    let exported = rattle_entries(&read("crates/fenalukki/src/lib.rt"));
+    assert_eq!(header_entries(), exported);
+    assert_eq!(exported.len(), 10);
+}
+
+/// A header that differs in one word is told apart.
+#[test]
+fn a_drift_of_the_header_is_seen() {
+    let header = read("include/fenalukki.h");
+    let entries = c_entries(&header);
+    for (from, to) in [
+        ("uint64_t fenalukki_check(", "uint32_t fenalukki_check("),
+        ("fenalukki_column_counted(", "fenalukki_columns_counted("),
+        (
+            "int32_t x, int32_t y, int32_t z",
+            "int32_t y, int32_t x, int32_t z",
+        ),
+        ("int64_t bounds[2]", "int64_t bounds[3]"),
+        ("int64_t bounds[2]", "int64_t *bounds"),
+        ("uint32_t totals[3]", "uint64_t totals[3]"),
+        ("float ax, float ay", "float ax, double ay"),
+        ("size_t marks_len", "uint32_t marks_len"),
+        ("uint8_t *marks", "const uint8_t *marks"),
+        ("const uint8_t *file", "uint8_t *file"),
+        ("uint32_t budget,\n", "int32_t budget,\n"),
+        ("uint32_t budget,\n", ""),
+    ] {
+        assert!(header.contains(from), "{from}");
+        let drifted = c_entries(&header.replacen(from, to, 1));
+        assert_ne!(drifted, entries, "{from} to {to}");
+    }
+}
+
+/// The archive has the header's entries and no other global name, and needs `memset` alone.
+#[test]
+fn the_archive_has_these_entries_and_needs_memset() {
+    let archive = root().join("target/staticlib/libfenalukki.a");
+    let names = |flag: &str| -> BTreeSet<String> {
+        let mut nm = Command::new("nm");
+        let listed = nm.args(["-P", "-g", flag]).arg(&archive).output();
+        let lines = text(listed.expect("nm"));
+        let symbols = lines.lines().filter(|line| !line.ends_with(':'));
+        symbols
+            .filter_map(|line| line.split(' ').next())
+            .filter(|name| !name.is_empty())
+            .map(String::from)
+            .collect()
+    };
+    let declared: BTreeSet<String> = header_entries().into_keys().collect();
+    assert_eq!(names("--defined-only"), declared);
+    assert_eq!(names("--undefined-only"), ["memset".to_string()].into());
+}
+
+/// The value of a name of the header.
+fn named(name: &str) -> u32 {
+    let header = read("include/fenalukki.h");
+    let line = header
+        .split_once(&format!("#define FENALUKKI_{name} "))
+        .expect(name);
+    let digits = line.1.split(|c: char| !c.is_ascii_digit()).next();
+    digits.and_then(|digits| digits.parse().ok()).expect(name)
+}
+
+/// The check's answer to a file of one point.
+fn check_point(r: u32, x: i32, w: i32, iso: u32) -> Result<(u32, u32), u32> {
+    let file = FileBuilder::new(iso as u16);
+    part::check(&file.point(r as u16, [0, x as i16, 0], w as i16).build())
+}
+
+/// Points, of which all but one are joined as they come or at the end.
+fn check_points(points: u32, joined: bool) -> Result<(u32, u32), u32> {
+    let add = |file: FileBuilder, i| {
+        let file = file.point(1, [0; 3], 1);
+        if joined && i > 0 {
+            file.sum()
+        } else {
+            file
+        }
+    };
+    let file = (0..points).fold(FileBuilder::new(1), add);
+    let joins = if joined { 0 } else { points - 1 };
+    part::check(&(0..joins).fold(file, |file, _| file.sum()).build())
+}
+
+fn check_length(length: u32) -> Result<(u32, u32), u32> {
+    let file = FileBuilder::new(1).point(1, [0; 3], 1);
+    let leading = length.saturating_sub(24) as usize;
+    let file = file.leading(&vec![0xee; leading]).build();
+    part::check(&file[..length as usize])
+}
+
+/// A name that stands for a limit of the file is the last value that passes.
+#[test]
+fn the_names_of_limits() {
+    let (reach, weight) = (named("COORDINATE_MAX") as i32, named("WEIGHT_MAX") as i32);
+    let (radius, iso) = (named("RADIUS_MAX"), named("ISO_MAX"));
+    assert_eq!(check_point(radius, reach, weight, iso), Ok((1, iso)));
+    assert_eq!(check_point(radius, -reach, -weight, iso), Ok((1, iso)));
+    for (r, x, w) in [(1, 0, 0), (0, 1, 0), (0, -1, 0), (0, 0, 1), (0, 0, -1)] {
+        let beyond = |value: i32, more: i32| if more == 0 { 0 } else { value * more + more };
+        let file = check_point(radius + r, beyond(reach, x), beyond(weight, w), iso);
+        assert_eq!(file, Err(8), "{r} {x} {w}");
+    }
+    assert_eq!(check_point(radius, 0, 0, iso + 1), Err(5));
+    let records = named("RECORDS_MAX");
+    assert_eq!(check_points(records.div_ceil(2), true), Ok((records, 1)));
+    assert_eq!(check_points(records.div_ceil(2) + 1, true), Err(4));
+    let held = named("HELD_MAX");
+    assert_eq!(check_points(held, false), Ok((2 * held - 1, 1)));
+    assert_eq!(check_points(held + 1, false), Err(10));
+    let (least, most) = (named("FILE_BYTES_MIN"), named("FILE_BYTES_MAX"));
+    assert_eq!([least, most].map(check_length), [Ok((1, 1)); 2]);
+    assert_eq!([least - 1, most + 1].map(check_length), [Err(1); 2]);
+}
+
+/// Names of what the reference names too.
+#[test]
+fn the_names_of_sizes_and_marks() {
+    assert_eq!(named("TICKS"), cast::TICKS);
+    assert_eq!(named("MARKS_BYTES"), cast::TICKS);
+    assert_eq!(named("COLUMN_BYTES") as usize, cast::COLUMN_BYTES);
+    assert_eq!(named("ENOUGH"), 2 * cast::TICKS - 1);
+    assert_eq!(named("RECORD_BYTES") as usize, part::RECORD);
+    assert_eq!(named("TRAILER_BYTES") as usize, part::RECORD);
+    let marks = [Mark::Empty, Mark::Crossing, Mark::Inside].map(Mark::byte);
+    let names = ["EMPTY", "CROSSING", "INSIDE"].map(named);
+    assert_eq!(names, marks.map(u32::from));
+    assert_eq!(named("NOT_LOOKED_AT"), cast::NOT_LOOKED_AT.into());
+}
+
+/// The words of a line of `readers.c` for a call's number.
+const REFUSAL: usize = 0;
+const PROBES: usize = 1;
+const SPENT: usize = 2;
+const K: usize = 3;
+const TICK: usize = 4;
+const MARK: usize = 5;
+const PLACE: usize = 6;
+const NODES: usize = 7;
+const ISO: usize = 8;
+const SECOND_UNIT: usize = 9;
+
+/// A call's number, and what the readers that are for it say.
+type Reading = (u64, Vec<(usize, String)>);
+
+fn reading(number: u64, words: &[(usize, u32)]) -> Reading {
+    let not_refused = [(REFUSAL, 0), (SECOND_UNIT, 20)];
+    let words = if number < 65_536 {
+        &[]
+    } else {
+        &not_refused[..]
+    }
+    .iter()
+    .chain(words);
+    let words = words.map(|(word, value)| (*word, value.to_string()));
+    (number, words.collect())
+}
+
+fn refused(number: u32) -> Reading {
+    let zero = [PROBES, SPENT, K, TICK, PLACE, NODES, ISO].map(|word| (word, 0));
+    let said = [(REFUSAL, number), (SECOND_UNIT, number), (MARK, 3)];
+    reading(number.into(), &[&zero[..], &said[..]].concat())
+}
+
+fn casts(probes: u32) -> Vec<Reading> {
+    let complete = FullCast::Complete { probes }.number().into();
+    let column = Column::Done { probes }.number().into();
+    let spent = FullCast::Spent { probes, tick: 7 }.number().into();
+    vec![
+        reading(complete, &[(PROBES, probes), (SPENT, 0)]),
+        reading(column, &[(PROBES, probes), (SPENT, 0)]),
+        reading(spent, &[(PROBES, probes), (SPENT, 1)]),
+    ]
+}
+
+fn hits(tick: u32, probes: u32) -> Vec<Reading> {
+    let hit = |mark| FirstHit::Hit { tick, mark, probes }.number();
+    let clear = FirstHit::Clear { probes }.number();
+    let spent = FirstHit::Spent { probes, tick }.number();
+    let cases = [
+        (hit(Mark::Crossing), 1, tick, 1, 0),
+        (hit(Mark::Inside), 2, tick, 2, 0),
+        (clear, 3, 0, 0, 0),
+        (spent, 4, tick, 3, 1),
+    ];
+    let words = |(number, k, tick, mark, spent): (u64, u32, u32, u32, u32)| {
+        let said = [
+            (PROBES, probes),
+            (K, k),
+            (TICK, tick),
+            (MARK, mark),
+            (SPENT, spent),
+        ];
+        let (number, mut words) = reading(number, &said);
+        words.push((PLACE, (f64::from(tick) / 1024.0).to_string()));
+        (number, words)
+    };
+    cases.map(words).into()
+}
+
+fn check(nodes: u32, iso: u32) -> Reading {
+    let number = (1 << 32) + u64::from(nodes) * 65_536 + u64::from(iso);
+    reading(number, &[(NODES, nodes), (ISO, iso)])
+}
+
+fn readings() -> Vec<Reading> {
+    let mut all: Vec<Reading> = (1..=15).map(refused).collect();
+    for probes in [0, 1, 15, 255, 256, 2046, 2047] {
+        all.extend(casts(probes));
+        all.extend(
+            [0, 1, 330, 512, 1023]
+                .iter()
+                .flat_map(|tick| hits(*tick, probes)),
+        );
+    }
+    let sizes = [1, 2, 255, 256, 510, 511];
+    let isos = [1, 2, 768, 4095, 4096];
+    all.extend(sizes.iter().flat_map(|n| isos.map(|iso| check(*n, iso))));
+    all
+}
+
+/// The programs of `readers.c`, in C99 and in C++ of two standards.
+fn readers(name: &str) -> [PathBuf; 3] {
+    let sources = ["readers.c", "second.c"].map(|s| format!("reference/tests/c_interface/{s}"));
+    let sources = [&sources[0][..], &sources[1][..]];
+    ["c99", "c++98", "c++17"].map(|standard| {
+        let compiler = if standard == "c99" { "cc" } else { "c++" };
+        let language = if standard == "c99" { "c" } else { "c++" };
+        let flag = format!("-std={standard}");
+        let command = [compiler, &flag, "-x", language];
+        compiled(&format!("{name}-{standard}"), &command, &sources)
+    })
+}
+
+#[test]
+fn readers_in_c99_and_cpp_take_numbers_apart() {
+    let readings = readings();
+    let input: String = readings.iter().map(|(n, _)| format!("n {n:x}\n")).collect();
+    for program in readers("numbers") {
+        let output = printed(&program, &input);
+        assert_eq!(output.lines().count(), readings.len());
+        for (line, (number, expected)) in output.lines().zip(&readings) {
+            let words: Vec<&str> = line.split(' ').collect();
+            for (word, value) in expected {
+                assert_eq!(words[*word], value, "word {word} of {number:#x}: {line}");
+            }
+        }
+    }
+}
+
+/// Each refusal number has a text of its own.
+#[test]
+fn refusal_texts() {
+    let numbers = (0..=15).chain([16, 65_535, 65_536, 65_575, 1 << 32]);
+    let input: String = numbers.map(|n: u64| format!("n {n:x}\n")).collect();
+    for program in readers("texts") {
+        let output = printed(&program, &input);
+        let texts = output.lines().map(|line| line.splitn(11, ' ').last());
+        let texts: Vec<&str> = texts.map(|text| text.expect("a text")).collect();
+        let own: BTreeSet<&str> = texts[1..=15].iter().copied().collect();
+        assert_eq!(own.len(), 15);
+        assert!(!own.contains("no refusal number") && !own.contains("not refused"));
+        assert_eq!([texts[0], texts[16], texts[17]], ["no refusal number"; 3]);
+        assert_eq!(texts[18..], ["not refused"; 3]);
+    }
+}
+
+#[test]
+fn ticks_reached_and_bits() {
+    let ticks = || (0..1024).map(|tick| format!("{tick:x}"));
+    let marks: String = ticks().map(|tick| format!("m {tick}\n")).collect();
+    let bits: String = ticks().map(|tick| format!("b {tick}\n")).collect();
+    let reached: String = (0..=1024).map(|tick| format!("{tick}\n")).collect();
+    for program in readers("marks") {
+        assert_eq!(printed(&program, &format!("{marks}m 400\n")), reached);
+        assert_eq!(printed(&program, &bits), "1 1\n".repeat(1024));
+    }
+}
+
+/// Steps and halves of steps with the doubles next to them, special doubles, and random ones.
+fn millimetres() -> Vec<f64> {
+    let halves = (-4100..=4100).map(|half| f64::from(half) / 128.0);
+    let near = |mm: f64| {
+        [
+            mm,
+            f64::from_bits(mm.to_bits() + 1),
+            f64::from_bits(mm.to_bits().max(1) - 1),
+        ]
+    };
+    let special = [
+        f64::NAN,
+        f64::INFINITY,
+        f64::MAX,
+        f64::MIN_POSITIVE,
+        5e-324,
+        1e39,
+        0.1,
+        3.4e38,
+    ];
+    let mut random = SplitMix64::new(14);
+    let mut drawn = |n: i64| match n % 2 {
+        0 => random.between(-34_000_000, 34_000_000) as f64 / 1e6,
+        _ => f64::from_bits(random.next_u64()),
+    };
+    let drawn: Vec<f64> = (0..8000).map(&mut drawn).collect();
+    let both = special.iter().flat_map(|mm| [*mm, -mm]);
+    halves.flat_map(near).chain(both).chain(drawn).collect()
+}
+
+/// The bits of the float expected, and how the viewer's call refuses it.
+fn rounded(mm: f64) -> (f32, u32) {
+    let steps = (mm * 64.0).round();
+    match steps.abs() <= 2047.0 {
+        true => ((steps as i32) as f32 / 64.0, 0),
+        false => (mm as f32, 15),
+    }
+}
+
+#[test]
+fn coordinates_are_rounded_to_steps() {
+    let all = millimetres();
+    let input: String = all
+        .iter()
+        .map(|mm| format!("r {:x}\n", mm.to_bits()))
+        .collect();
+    for program in readers("steps") {
+        let output = printed(&program, &input);
+        assert_eq!(output.lines().count(), all.len());
+        for (line, mm) in output.lines().zip(&all) {
+            let (bits, refusal) = line.split_once(' ').expect("two words");
+            let float = f32::from_bits(u32::from_str_radix(bits, 16).expect("bits"));
+            let (expected, expected_refusal) = rounded(*mm);
+            assert!(
+                float.to_bits() == expected.to_bits() || mm.is_nan() && float.is_nan(),
+                "{mm:e} {line}"
+            );
+            assert_eq!(refusal, expected_refusal.to_string(), "{mm:e}");
+        }
+    }
+}
+
+#[test]
+fn the_tour() {
+    let output = printed(&c99("tour", &["examples/tour.c"]), "");
+    assert_eq!(output, read("examples/tour.out"));
+    for (name, _) in header_entries() {
+        assert!(
+            read("examples/tour.c").contains(&format!("{name}(")),
+            "{name}"
+        );
+        assert!(read("README.md").contains(&format!("`{name}`")), "{name}");
+    }
+}
+
+/// The indented lines of a document that begin with a line.
+fn indented<'a>(document: &'a str, first: &str) -> Vec<&'a str> {
+    let lines = document
+        .lines()
+        .skip_while(|line| !line.starts_with(&format!("    {first}")));
+    lines.map_while(|line| line.strip_prefix("    ")).collect()
+}
+
+fn block<'a>(document: &'a str, language: &str) -> &'a str {
+    let after = document
+        .split_once(&format!("```{language}\n"))
+        .expect("a block")
+        .1;
+    after.split_once("```").expect("its end").0
+}
+
+/// The document's file, its plane and its cast are the tour's.
+#[test]
+fn the_format_shows_what_the_tour_prints() {
+    let (format, tour) = (read("docs/FORMAT.md"), read("examples/tour.out"));
+    let cast = indented(&format, "  empty 0 to");
+    for (lines, count) in [
+        (indented(&format, "  0 01 00"), 6),
+        (indented(&format, "......"), 32),
+        (cast, 9),
+    ] {
+        assert_eq!(lines.len(), count);
+        assert!(tour.contains(&lines.join("\n")), "{lines:?}");
+    }
+}
+
+/// The bytes that the document writes, as the reference reads them.
+#[test]
+fn the_worked_file_of_the_format() {
+    let format = read("docs/FORMAT.md");
+    let lines = indented(&format, "  0 01 00");
+    let words = lines
+        .iter()
+        .flat_map(|line| line[3..].split_whitespace().take(12));
+    let file: Vec<u8> = words
+        .map(|word| u8::from_str_radix(word, 16).expect("a byte"))
+        .collect();
+    assert_eq!((file.len(), part::check(&file)), (72, Ok((5, 768))));
+    let written = block(&format, "bash")
+        .lines()
+        .filter(|line| line.contains("three.part"));
+    let written: String = written.filter_map(|line| line.split('\'').nth(1)).collect();
+    let again: String = file.iter().map(|byte| format!("\\x{byte:02x}")).collect();
+    assert_eq!(written, again);
+}
+
+/// What the document's commands print.
+#[test]
+fn the_commands_of_the_format() {
+    let format = read("docs/FORMAT.md");
+    let script = format!("set -e\n{}", block(&format, "bash"));
+    let mut bash = Command::new("bash");
+    let output = bash.arg("-c").arg(script).current_dir(root()).output();
+    assert_eq!(text(output.expect("bash")), block(&format, "text"));
+}
+
+/// What the README says that the listers print.
+#[test]
+fn the_listers_of_the_readme() {
+    let readme = read("README.md");
+    for program in ["target/bin/partlist", "(printf"] {
+        let command = indented(&readme, program)[0];
+        let shown = readme.split_once(command).expect("its place").1;
+        let shown = shown.trim_start_matches('\n').lines();
+        let shown: Vec<&str> = shown.map_while(|line| line.strip_prefix("    ")).collect();
+        let mut bash = Command::new("bash");
+        let output = bash.args(["-c", command]).current_dir(root()).output();
+        let output = text(output.expect("bash"));
+        assert_eq!(output.lines().collect::<Vec<_>>(), shown, "{command}");
+    }
+}
+
+/// Paths from the root, and the picture from the document's own folder.
+#[test]
+fn the_paths_of_the_format() {
+    let format = read("docs/FORMAT.md");
+    let quoted = format.split('`').skip(1).step_by(2);
+    let paths = quoted.filter(|word| word.contains('.') && !word.contains(' '));
+    let picture = format
+        .split("src=\"")
+        .nth(1)
+        .and_then(|rest| rest.split('"').next());
+    let picture = format!("docs/{}", picture.expect("a picture"));
+    for path in paths.chain([&picture[..]]) {
+        assert!(root().join(path).exists(), "{path}");
+    }
+}
+
+/// The kernel's plot has its points where the formula has them.
+#[test]
+fn the_plot_of_the_kernel() {
+    let plot = read("docs/pictures/kernel.svg");
+    let points = plot.split_once("points=\"").expect("points").1;
+    let points = points.split_once('"').expect("their end").0;
+    let numbers = points
+        .split([' ', ',', '\n'])
+        .filter(|word| !word.is_empty());
+    let numbers: Vec<f64> = numbers
+        .map(|word| word.parse().expect("a number"))
+        .collect();
+    assert_eq!(numbers.len(), 2 * 33);
+    for (i, point) in numbers.chunks(2).enumerate() {
+        let d = i as f64 / 32.0;
+        let u = 1.0 - d * d;
+        assert!((point[0] - (60.0 + 320.0 * d)).abs() < 0.001, "{point:?}");
+        assert!(
+            (point[1] - (240.0 - 200.0 * u * u)).abs() < 0.001,
+            "{point:?}"
+        );
+    }
+}
+
+fn install(prefix: &[&Path]) -> Output {
+    let mut script = Command::new(root().join("install"));
+    script.args(prefix).output().expect("the script")
+}
+
+/// The flags that a pkg-config file holds, by pkg-config or, where that is not installed, read from it.
+fn flags(prefix: &Path) -> Vec<String> {
+    let folder = prefix.join("lib/pkgconfig");
+    let mut tool = Command::new("pkg-config");
+    tool.args(["--cflags", "--libs", "fenalukki"]);
+    let flags = match tool.env("PKG_CONFIG_PATH", &folder).output() {
+        Ok(output) => text(output),
+        Err(_) => {
+            println!("pkg-config is not installed: flags are read from fenalukki.pc");
+            let file = fs::read_to_string(folder.join("fenalukki.pc")).expect("a file");
+            let lines = file.lines().filter_map(|line| line.split_once(": "));
+            let flags = lines.filter(|(name, _)| ["Cflags", "Libs"].contains(name));
+            let flags: String = flags.map(|(_, flags)| format!("{flags} ")).collect();
+            let flags = flags.replace("${includedir}", "${prefix}/include");
+            let flags = flags.replace("${libdir}", "${prefix}/lib");
+            flags.replace("${prefix}", &prefix.display().to_string())
+        }
+    };
+    flags.split_whitespace().map(String::from).collect()
+}
+
+/// A host that is built from the installed files alone.
+#[test]
+fn a_host_built_with_pkg_config() {
+    let prefix = temporary("prefix");
+    let _ = fs::remove_dir_all(&prefix);
+    text(install(&[&prefix]));
+    let prefix = prefix.canonicalize().expect("a folder");
+    for file in ["FORMAT.md", "pictures/kernel.svg", "examples/tour.c"] {
+        assert!(
+            prefix.join("share/doc/fenalukki").join(file).exists(),
+            "{file}"
+        );
+    }
+    let flags = flags(&prefix);
+    let libraries: Vec<&String> = flags.iter().filter(|flag| flag.starts_with("-l")).collect();
+    assert_eq!(libraries, ["-lfenalukki"]);
+    let program = temporary("installed-column");
+    let mut cc = Command::new("cc");
+    cc.arg(root().join("examples/column.c")).args(&flags);
+    text(cc.arg("-o").arg(&program).output().expect("cc"));
+    let output = Command::new(&program).current_dir(root()).output();
+    let solid = format!("{}{}{}", ".".repeat(41), "#".repeat(46), ".".repeat(41));
+    assert_eq!(
+        text(output.expect("starts")),
+        format!("{solid}\nprobes 39\n")
+    );
+}
+
+#[test]
+fn the_pkg_config_file_has_the_headers_version() {
+    let prefix = temporary("versions");
+    text(install(&[&prefix]));
+    let file = fs::read_to_string(prefix.join("lib/pkgconfig/fenalukki.pc")).expect("a file");
+    let header = read("include/fenalukki.h");
+    let number = |name: &str| {
+        let line = header.split_once(&format!("#define FENALUKKI_VERSION_{name} "));
+        line.and_then(|(_, rest)| rest.lines().next())
+            .expect("a version")
+    };
+    let version = ["MAJOR", "MINOR", "PATCH"].map(number).join(".");
+    assert!(file.contains(&format!("\nVersion: {version}\n")), "{file}");
+    assert!(header.contains(&format!("#define FENALUKKI_VERSION \"{version}\"\n")));
+}
+
+#[test]
+fn install_asks_for_one_prefix() {
+    for prefix in [&[][..], &[Path::new("")], &[Path::new("a"), Path::new("b")]] {
+        let output = install(prefix);
+        assert_eq!(output.status.code(), Some(2));
+        assert_eq!(output.stderr, b"usage: ./install PREFIX\n");
+    }
+}

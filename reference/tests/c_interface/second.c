@@ -1,0 +1,41 @@
+/* A second unit with fenalukki.h, which includes it twice, and uses its names
+ * where only a constant may stand. */
+#include "fenalukki.h"
+#include "fenalukki.h"
+
+#if FENALUKKI_VERSION_NUMBER < 10000 || FENALUKKI_REFUSED_FLOAT != FENALUKKI_REFUSALS || FENALUKKI_TOTALS_MAX != 0xffffffff
+#error "names of fenalukki.h do not agree"
+#endif
+
+enum { MARKS = FENALUKKI_MARKS_BYTES };
+
+static const int64_t most_field = FENALUKKI_WEIGHT_MAX * FENALUKKI_BOUNDS_ONE;
+
+int second_unit(uint64_t number);
+
+/* 1 to 15 for a refusal number, 20 for any other number. */
+int second_unit(uint64_t number)
+{
+    static uint8_t marks[MARKS];
+
+    switch (fenalukki_refusal(number)) {
+    case FENALUKKI_REFUSED_LENGTH:
+    case FENALUKKI_REFUSED_FILE_MARK:
+    case FENALUKKI_REFUSED_VERSION:
+    case FENALUKKI_REFUSED_DISTANCE:
+    case FENALUKKI_REFUSED_ISO:
+    case FENALUKKI_REFUSED_KIND:
+    case FENALUKKI_REFUSED_ZERO_BYTES:
+    case FENALUKKI_REFUSED_POINT:
+    case FENALUKKI_REFUSED_TOO_FEW_HELD:
+    case FENALUKKI_REFUSED_TOO_MANY_HELD:
+    case FENALUKKI_REFUSED_NOT_ONE_HELD:
+    case FENALUKKI_REFUSED_COORDINATE:
+    case FENALUKKI_REFUSED_EQUAL_ENDS:
+    case FENALUKKI_REFUSED_ROOM:
+    case FENALUKKI_REFUSED_FLOAT:
+        return fenalukki_refusal(number);
+    default:
+        return most_field >> 32 == FENALUKKI_WEIGHT_MAX ? 20 + marks[0] : 0;
+    }
+}
