@@ -90,7 +90,7 @@ fn main() -> io::Result<()> {
     eprint!("{}", stream.sides.table());
     let least = stream.sides.least().map_err(io::Error::other)?;
     eprintln!(
-        "{} requests, {least} or more on each side of each limit in each call",
+        "{} requests, {least} or more on each side of each limit in each call that asks",
         stream.requests
     );
     Ok(())
