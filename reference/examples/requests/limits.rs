@@ -17,10 +17,14 @@ const REACH: i32 = 2047;
 
 /// Every request of the list, the two of a pair one after the other.
 pub fn at_limits(random: &mut SplitMix64) -> Vec<Request> {
-    (0..CALLS as u8)
+    let requests: Vec<Request> = (0..CALLS as u8)
         .flat_map(of_call)
         .map(|request| counted(random, request).answered())
-        .collect()
+        .collect();
+    for pair in requests.chunks(2) {
+        assert!(pair[0].is_accepted() && !pair[1].is_accepted());
+    }
+    requests
 }
 
 /// The request, lent totals if it counts.
@@ -117,7 +121,7 @@ fn trailers() -> Files {
     files
 }
 
-/// Question 4.
+/// Question 4. Distances of 25 and 35 leave a whole record before stray bytes.
 fn distances() -> Files {
     let one = FileBuilder::new(3).raw(wide());
     let joined = |builder: FileBuilder, _| builder.raw(narrow()).greater();
@@ -175,7 +179,7 @@ fn zero_bytes() -> Files {
     files
 }
 
-/// Question 8: the pair is one number of the second point.
+/// Question 8: one number of a third point.
 fn points() -> Files {
     let file = |r, centre, w| whole().point(r, centre, w).greater().build();
     let mut files = vec![
