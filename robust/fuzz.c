@@ -1,28 +1,40 @@
 /*
- * The three C entries under libFuzzer, each compared with the reference: the
- * number, every byte of the buffer and around it, and the file. The file and
- * the buffers lie against inaccessible pages. robust/fuzz builds and runs it.
+ * The ten C entries under libFuzzer, each compared with the reference: the
+ * number, every byte of the buffer, of the bounds and of the totals and around
+ * them, and the file. What is lent lies against inaccessible pages. robust/fuzz
+ * builds and runs it.
  *
  * An input is the ray lister's: A and B as six signed 16-bit numbers, the
  * budget unsigned 16 bits, then the file, little-endian. With fewer than 14
- * bytes the file is empty and the numbers are 0. On each input a first hit is
- * made, a full cast with just enough room and with a byte too little, and a
- * column with a byte more than it needs, with a byte too little and with none:
- * five loans, so that a call's buffer changes sides from input to input.
+ * bytes the file is empty and the numbers are 0. On each input a file is
+ * checked, bounds are asked at A and a first hit is made; a full cast with just
+ * enough room and with a byte too little; a column with a byte more than it
+ * needs, with a byte too little and with none; and the viewer's first hit with
+ * the numbers as steps and as the upper halves of floats. Each casting call is
+ * made plain and counted. The buffer is lent eleven times, so that a call's
+ * changes sides from input to input.
  */
 #include "fenalukki.h"
 #include "lent.h"
 
 #include <stdio.h>
 #include <stdlib.h>
+#include <string.h>
 
 #define HEAD 14
 #define MARKS 1024
 #define COLUMN 128
+#define RAY c[0], c[1], c[2], c[3], c[4], c[5]
 
 int LLVMFuzzerTestOneInput(const uint8_t *data, size_t size);
 
 /* The reference's calls, of reference/examples/answers. */
+uint64_t reference_check(const uint8_t *file, size_t file_len);
+uint32_t reference_place_bounds(const uint8_t *file, size_t file_len,
+                                int32_t x, int32_t y, int32_t z, uint8_t *bounds);
+uint64_t reference_viewer_first_hit(const uint8_t *file, size_t file_len,
+                                    float ax, float ay, float az,
+                                    float bx, float by, float bz, uint32_t budget);
 uint32_t reference_full_cast(const uint8_t *file, size_t file_len,
                              int32_t ax, int32_t ay, int32_t az,
                              int32_t bx, int32_t by, int32_t bz,
@@ -43,7 +55,10 @@ struct input {
     uint32_t budget;
 };
 
-static struct lent file, buffer;
+/* The totals before a call: the ceiling is near, and reached. */
+static const uint32_t before[3] = {5, UINT32_MAX - 20, UINT32_MAX};
+
+static struct lent file, buffer, totals;
 
 static uint32_t unsigned_at(const uint8_t *at)
 {
@@ -66,48 +81,114 @@ static void expect_same(const char *call, const char *what)
     abort();
 }
 
-static const char *number_difference(uint64_t found, uint64_t expected)
+/* Compares the number, and the buffer of which written bytes are expected. */
+static void expect(const char *call, uint64_t found, uint64_t right, const void *bytes,
+                   size_t written)
 {
-    return found == expected ? NULL : "the number";
+    expect_same(call, found == right ? NULL : "the number");
+    expect_same(call, take_back(&buffer, bytes, written));
+}
+
+static uint32_t *lend_totals(void)
+{
+    return (uint32_t *)(void *)lend(&totals, before, sizeof before);
+}
+
+/* Compares the totals after a call of the number. */
+static void expect_counted(const char *call, uint64_t number)
+{
+    uint32_t after[3] = {before[0], before[1], before[2]};
+    uint32_t probes = (uint32_t)(number & 0xffff);
+
+    if (number >= 65536) {
+        after[0]++;
+        after[1] = probes > 20 ? UINT32_MAX : after[1] + probes;
+    }
+    expect_same(call, take_back(&totals, after, sizeof after));
 }
 
 static void compare_full_cast(const struct input *in, size_t room)
 {
     const int32_t *c = in->ray;
-    uint8_t expected[MARKS];
-    uint8_t *marks = lend(&buffer, NULL, room);
-    uint32_t found = fenalukki_full_cast(in->lent, in->length, c[0], c[1], c[2], c[3], c[4], c[5],
-                                         in->budget, marks, room);
-    uint32_t right = reference_full_cast(in->original, in->length, c[0], c[1], c[2], c[3], c[4],
-                                         c[5], in->budget, expected, room);
+    uint8_t marks[MARKS];
+    uint32_t right = reference_full_cast(in->original, in->length, RAY, in->budget, marks, room);
+    size_t written = right < 65536 ? 0 : MARKS;
+    uint32_t found = fenalukki_full_cast(in->lent, in->length, RAY, in->budget,
+                                         lend(&buffer, NULL, room), room);
 
-    expect_same("full cast", number_difference(found, right));
-    expect_same("full cast", take_back(&buffer, expected, right < 65536 ? 0 : MARKS));
+    expect("full cast", found, right, marks, written);
+    found = fenalukki_full_cast_counted(in->lent, in->length, RAY, in->budget,
+                                        lend(&buffer, NULL, room), room, lend_totals());
+    expect("full cast counted", found, right, marks, written);
+    expect_counted("full cast counted", right);
 }
 
 static void compare_column(const struct input *in, size_t room)
 {
     const int32_t *c = in->ray;
-    uint8_t expected[COLUMN + 1];
-    uint8_t *column = lend(&buffer, NULL, room);
-    uint32_t found = fenalukki_column(in->lent, in->length, c[0], c[1], c[2], c[3], c[4], c[5],
-                                      column, room);
-    uint32_t right = reference_column(in->original, in->length, c[0], c[1], c[2], c[3], c[4], c[5],
-                                      expected, room);
+    uint8_t bits[COLUMN + 1];
+    uint32_t right = reference_column(in->original, in->length, RAY, bits, room);
+    size_t written = right < 65536 ? 0 : COLUMN;
+    uint32_t found = fenalukki_column(in->lent, in->length, RAY, lend(&buffer, NULL, room), room);
 
-    expect_same("column", number_difference(found, right));
-    expect_same("column", take_back(&buffer, expected, right < 65536 ? 0 : COLUMN));
+    expect("column", found, right, bits, written);
+    found = fenalukki_column_counted(in->lent, in->length, RAY, lend(&buffer, NULL, room), room,
+                                     lend_totals());
+    expect("column counted", found, right, bits, written);
+    expect_counted("column counted", right);
 }
 
 static void compare_first_hit(const struct input *in)
 {
     const int32_t *c = in->ray;
-    uint64_t found = fenalukki_first_hit(in->lent, in->length, c[0], c[1], c[2], c[3], c[4], c[5],
-                                         in->budget);
-    uint64_t right = reference_first_hit(in->original, in->length, c[0], c[1], c[2], c[3], c[4],
-                                         c[5], in->budget);
+    uint64_t right = reference_first_hit(in->original, in->length, RAY, in->budget);
+    uint64_t found = fenalukki_first_hit(in->lent, in->length, RAY, in->budget);
 
-    expect_same("first hit", number_difference(found, right));
+    expect_same("first hit", found == right ? NULL : "the number");
+    found = fenalukki_first_hit_counted(in->lent, in->length, RAY, in->budget, lend_totals());
+    expect_same("first hit counted", found == right ? NULL : "the number");
+    expect_counted("first hit counted", right);
+}
+
+static void compare_viewer(const struct input *in, const float *c)
+{
+    uint64_t right = reference_viewer_first_hit(in->original, in->length, RAY, in->budget);
+    uint64_t found = fenalukki_viewer_first_hit(in->lent, in->length, RAY, in->budget);
+
+    expect_same("viewer's first hit", found == right ? NULL : "the number");
+    found = fenalukki_viewer_first_hit_counted(in->lent, in->length, RAY, in->budget,
+                                               lend_totals());
+    expect_same("viewer's first hit counted", found == right ? NULL : "the number");
+    expect_counted("viewer's first hit counted", right);
+}
+
+/* The viewer's first hit with the numbers as steps, and as upper halves of floats. */
+static void compare_viewers(const struct input *in)
+{
+    float steps[6], halves[6];
+    int i;
+
+    for (i = 0; i < 6; i++) {
+        uint32_t bits = (uint32_t)in->ray[i] << 16;
+
+        steps[i] = (float)in->ray[i] / 64;
+        memcpy(&halves[i], &bits, sizeof bits);
+    }
+    compare_viewer(in, steps);
+    compare_viewer(in, halves);
+}
+
+static void compare_file(const struct input *in)
+{
+    const int32_t *c = in->ray;
+    uint8_t bounds[16];
+    uint32_t right = reference_place_bounds(in->original, in->length, c[0], c[1], c[2], bounds);
+    uint32_t found = fenalukki_place_bounds(in->lent, in->length, c[0], c[1], c[2],
+                                            (int64_t *)(void *)lend(&buffer, NULL, 16));
+
+    expect("bounds", found, right, bounds, right < 65536 ? 0 : 16);
+    expect_same("check", fenalukki_check(in->lent, in->length) ==
+                         reference_check(in->original, in->length) ? NULL : "the number");
 }
 
 static void read_input(struct input *in, const uint8_t *data, size_t size)
@@ -131,6 +212,7 @@ int LLVMFuzzerTestOneInput(const uint8_t *data, size_t size)
     if (!opened) {
         lent_open(&file, 1);
         lent_open(&buffer, 1);
+        lent_open(&totals, 1);
         opened = 1;
     }
     read_input(&in, data, size);
@@ -144,6 +226,8 @@ int LLVMFuzzerTestOneInput(const uint8_t *data, size_t size)
     compare_column(&in, COLUMN - 1);
     compare_column(&in, 0);
     compare_first_hit(&in);
+    compare_viewers(&in);
+    compare_file(&in);
     expect_same("the file", take_back(&file, in.original, in.length));
     return 0;
 }

@@ -1,8 +1,8 @@
 /*
  * A host that makes the requests of a stream and compares each answer with the
- * reference's: the number, the viewer's place, the totals, every byte of the
- * buffer and around it, and the file. reference/examples/requests makes the
- * stream and describes it.
+ * reference's: the number, every byte of the buffer or of the two bounds and
+ * around it, the totals and what lies around them, and the file.
+ * reference/examples/requests makes the stream and describes it.
  *
  *     replay pages|heap < STREAM
  *
@@ -21,42 +21,62 @@
 #include <string.h>
 #include <unistd.h>
 
-#define HEAD 80
-#define WITH_TOTALS 4
-#define VIEW 7
-#define CALLS 8
+#define HEAD 76
 #define KINDS 5
 #define QUESTIONS 16
 /* A kind of answer is rare below one in so many requests. */
 #define RARE 1000
 
-uint64_t testhost_call(const uint8_t *file, size_t file_len, uint32_t which,
-                       int32_t ax, int32_t ay, int32_t az, int32_t bx, int32_t by, int32_t bz,
-                       uint32_t budget, uint8_t *buffer, size_t buffer_len, uint32_t *totals);
-uint64_t testhost_view(const uint8_t *file, size_t file_len,
-                       float ax, float ay, float az, float bx, float by, float bz,
-                       uint32_t budget, uint32_t *totals);
-float testhost_place(const uint8_t *file, size_t file_len,
-                     float ax, float ay, float az, float bx, float by, float bz,
-                     uint32_t budget);
+enum call {
+    FULL_CAST,
+    FIRST_HIT,
+    COLUMN,
+    VIEW,
+    FULL_CAST_COUNTED,
+    FIRST_HIT_COUNTED,
+    COLUMN_COUNTED,
+    VIEW_COUNTED,
+    CHECK,
+    BOUNDS,
+    CALLS
+};
 
 struct request {
     unsigned call;
     int damaged;
-    uint32_t ray[6], budget, before[3], after[3], place;
+    uint32_t ray[6], budget, before[3], after[3];
     size_t file_len, room, written;
     uint64_t number;
     uint8_t file[LENT_MOST], expected[1024];
 };
 
-/* Answers by call and kind: refused, then as their number says. */
-static const char *const call_names[CALLS] = {
-    "full cast", "first hit", "column", NULL,
-    "full cast with totals", "first hit with totals", "column with totals", "viewer's first hit",
+/* The kinds of an answer, by its number's bits from a place on: refused, then these. */
+struct kinds {
+    unsigned shift;
+    const char *const names[KINDS];
 };
-static const char *const cast_kinds[KINDS] = {"refused", "complete", "spent", NULL, NULL};
-static const char *const hit_kinds[KINDS] = {"refused", "crossing", "inside", "clear", "spent"};
-static const char *const column_kinds[KINDS] = {"refused", "complete", NULL, NULL, NULL};
+
+static const struct kinds cast_kinds = {16, {"refused", "complete", "spent", NULL, NULL}};
+static const struct kinds hit_kinds = {32, {"refused", "crossing", "inside", "clear", "spent"}};
+static const struct kinds column_kinds = {16, {"refused", "complete", NULL, NULL, NULL}};
+static const struct kinds check_kinds = {32, {"refused", "accepted", NULL, NULL, NULL}};
+static const struct kinds bounds_kinds = {16, {"refused", "answered", NULL, NULL, NULL}};
+
+static const struct {
+    const char *name;
+    const struct kinds *kinds;
+} calls[CALLS] = {
+    {"full cast", &cast_kinds},
+    {"first hit", &hit_kinds},
+    {"column", &column_kinds},
+    {"viewer's first hit", &hit_kinds},
+    {"full cast counted", &cast_kinds},
+    {"first hit counted", &hit_kinds},
+    {"column counted", &column_kinds},
+    {"viewer's first hit counted", &hit_kinds},
+    {"check of a file", &check_kinds},
+    {"bounds at a place", &bounds_kinds},
+};
 
 static unsigned long requests, damaged, damaged_accepted;
 static unsigned long answers[CALLS][KINDS], refusals[QUESTIONS];
@@ -106,60 +126,69 @@ static int read_request(struct request *r)
     r->room = number_at(head + 36);
     numbers_at(head + 40, r->before, 3);
     r->number = number_at(head + 52) | (uint64_t)number_at(head + 56) << 32;
-    r->place = number_at(head + 60);
-    numbers_at(head + 64, r->after, 3);
-    r->written = number_at(head + 76);
-    if (r->call >= CALLS || call_names[r->call] == NULL || r->file_len > LENT_MOST ||
-        r->room > LENT_MOST || r->written > r->room || r->written > sizeof r->expected)
+    numbers_at(head + 60, r->after, 3);
+    r->written = number_at(head + 72);
+    if (r->call >= CALLS || r->file_len > LENT_MOST || r->room > LENT_MOST ||
+        r->written > r->room || r->written > sizeof r->expected)
         end_broken();
     read_bytes(r->file, r->file_len);
     read_bytes(r->expected, r->written);
     return 1;
 }
 
-static uint64_t viewer_call(const struct request *r, const uint8_t *file, uint32_t *totals,
-                            uint32_t *place)
+/* Makes a viewer's call. */
+static uint64_t viewer_answer(const struct request *r, const uint8_t *file, uint32_t *totals)
 {
-    float f[6], found;
-    uint64_t number;
+    float c[6];
 
-    memcpy(f, r->ray, sizeof f);
-    number = testhost_view(file, r->file_len, f[0], f[1], f[2], f[3], f[4], f[5], r->budget,
-                           totals);
-    found = testhost_place(file, r->file_len, f[0], f[1], f[2], f[3], f[4], f[5], r->budget);
-    memcpy(place, &found, sizeof found);
-    return number;
+    memcpy(c, r->ray, sizeof c);
+    if (r->call == VIEW)
+        return fenalukki_viewer_first_hit(file, r->file_len, c[0], c[1], c[2], c[3], c[4], c[5],
+                                          r->budget);
+    return fenalukki_viewer_first_hit_counted(file, r->file_len, c[0], c[1], c[2], c[3], c[4],
+                                              c[5], r->budget, totals);
 }
 
-/* Makes the call; the place is set only by the viewer's. */
+/* Makes another call. */
 static uint64_t answer(const struct request *r, const uint8_t *file, uint8_t *buffer,
-                       uint32_t *totals, uint32_t *place)
+                       uint32_t *totals)
 {
     int32_t c[6];
 
     memcpy(c, r->ray, sizeof c);
     switch (r->call) {
-    case 0:
+    case FULL_CAST:
         return fenalukki_full_cast(file, r->file_len, c[0], c[1], c[2], c[3], c[4], c[5],
                                    r->budget, buffer, r->room);
-    case 1:
+    case FIRST_HIT:
         return fenalukki_first_hit(file, r->file_len, c[0], c[1], c[2], c[3], c[4], c[5],
                                    r->budget);
-    case 2:
+    case COLUMN:
         return fenalukki_column(file, r->file_len, c[0], c[1], c[2], c[3], c[4], c[5], buffer,
                                 r->room);
-    case VIEW:
-        return viewer_call(r, file, totals, place);
+    case FULL_CAST_COUNTED:
+        return fenalukki_full_cast_counted(file, r->file_len, c[0], c[1], c[2], c[3], c[4], c[5],
+                                           r->budget, buffer, r->room, totals);
+    case FIRST_HIT_COUNTED:
+        return fenalukki_first_hit_counted(file, r->file_len, c[0], c[1], c[2], c[3], c[4], c[5],
+                                           r->budget, totals);
+    case COLUMN_COUNTED:
+        return fenalukki_column_counted(file, r->file_len, c[0], c[1], c[2], c[3], c[4], c[5],
+                                        buffer, r->room, totals);
+    case CHECK:
+        return fenalukki_check(file, r->file_len);
+    case BOUNDS:
+        return fenalukki_place_bounds(file, r->file_len, c[0], c[1], c[2],
+                                      (int64_t *)(void *)buffer);
     default:
-        return testhost_call(file, r->file_len, r->call - WITH_TOTALS, c[0], c[1], c[2], c[3],
-                             c[4], c[5], r->budget, buffer, r->room, totals);
+        return viewer_answer(r, file, totals);
     }
 }
 
 static int differs(const struct request *r, const char *where, const char *what)
 {
     if (what != NULL)
-        printf("request %lu, %s: %s: difference in %s\n", requests, call_names[r->call], where,
+        printf("request %lu, %s: %s: difference in %s\n", requests, calls[r->call].name, where,
                what);
     return what != NULL;
 }
@@ -168,7 +197,6 @@ static int differs(const struct request *r, const char *where, const char *what)
 static int replay(const struct request *r, struct lent *file, struct lent *buffer,
                   struct lent *totals)
 {
-    uint32_t place = 0;
     uint64_t number;
     const uint8_t *file_bytes = lend(file, r->file, r->file_len);
     uint8_t *buffer_bytes = lend(buffer, NULL, r->room);
@@ -176,35 +204,22 @@ static int replay(const struct request *r, struct lent *file, struct lent *buffe
     int found;
 
     lent_protect(file);
-    snprintf(during_call, sizeof during_call, "request %lu, %s: ", requests, call_names[r->call]);
-    number = answer(r, file_bytes, buffer_bytes, three, &place);
+    snprintf(during_call, sizeof during_call, "request %lu, %s: ", requests, calls[r->call].name);
+    number = answer(r, file_bytes, buffer_bytes, three);
     during_call[0] = 0;
     found = differs(r, "the file", take_back(file, r->file, r->file_len));
     found |= differs(r, "the buffer", take_back(buffer, r->expected, r->written));
     found |= differs(r, "the totals", take_back(totals, r->after, sizeof r->after));
-    if (number == r->number && place == r->place)
+    if (number == r->number)
         return found;
-    printf("request %lu, %s: answered %llu place %08lx, expected %llu place %08lx\n", requests,
-           call_names[r->call], (unsigned long long)number, (unsigned long)place,
-           (unsigned long long)r->number, (unsigned long)r->place);
+    printf("request %lu, %s: answered %llu, expected %llu\n", requests, calls[r->call].name,
+           (unsigned long long)number, (unsigned long long)r->number);
     return 1;
-}
-
-static int is_hit(unsigned call)
-{
-    return call == VIEW || call % WITH_TOTALS == 1;
-}
-
-static const char *const *kinds_of(unsigned call)
-{
-    if (is_hit(call))
-        return hit_kinds;
-    return call % WITH_TOTALS == 0 ? cast_kinds : column_kinds;
 }
 
 static void count(const struct request *r)
 {
-    uint64_t kind = r->number >> (is_hit(r->call) ? 32 : 16);
+    uint64_t kind = r->number >> calls[r->call].kinds->shift;
     int refused = r->number < QUESTIONS;
 
     if (kind >= KINDS)
@@ -227,10 +242,10 @@ static int print_count(const char *name, unsigned long number)
 
 static int print_call(unsigned call)
 {
-    const char *const *kinds = kinds_of(call);
+    const char *const *kinds = calls[call].kinds->names;
     int rare = 0, kind;
 
-    printf("%s:", call_names[call]);
+    printf("%s:", calls[call].name);
     for (kind = 0; kind < KINDS && kinds[kind] != NULL; kind++)
         rare |= print_count(kinds[kind], answers[call][kind]);
     printf("\n");
@@ -258,8 +273,7 @@ static int print_counts(void)
     unsigned call;
 
     for (call = 0; call < CALLS; call++)
-        if (call_names[call] != NULL)
-            rare |= print_call(call);
+        rare |= print_call(call);
     rare |= print_refusals();
     printf("on damaged files:");
     rare |= print_count("all", damaged);

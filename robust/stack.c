@@ -12,29 +12,83 @@
 #include <string.h>
 #include <ucontext.h>
 
-enum { STACK = 1 << 20, MOST = 32768, PATTERN = 0xa5, ENTRIES = 3 };
+enum { STACK = 1 << 20, MOST = 32768, PATTERN = 0xa5, ENTRIES = 10 };
+
+#define RAY -2047, -2047, -300, 2047, 2047, 300
+#define FLOATS -2047.0f / 64, -2047.0f / 64, -300.0f / 64, 2047.0f / 64, 2047.0f / 64, 300.0f / 64
 
 static uint8_t part[65537], buffer[1024], stack[STACK];
 static size_t length;
-static int refused;
+static uint32_t totals[3];
+static int64_t bounds[2];
+static uint64_t number; /* the last call's */
 
 static void full_cast(void)
 {
-    refused |= fenalukki_full_cast(part, length, -2047, -2047, -300, 2047, 2047, 300, 2047,
-                                   buffer, sizeof buffer) < 65536;
+    number = fenalukki_full_cast(part, length, RAY, 2047, buffer, sizeof buffer);
 }
 
 static void first_hit(void)
 {
-    refused |= fenalukki_first_hit(part, length, -2047, -2047, -300, 2047, 2047, 300, 2047)
-               < 65536;
+    number = fenalukki_first_hit(part, length, RAY, 2047);
 }
 
 static void column(void)
 {
-    refused |= fenalukki_column(part, length, -2047, -2047, -300, 2047, 2047, 300,
-                                buffer, sizeof buffer) < 65536;
+    number = fenalukki_column(part, length, RAY, buffer, sizeof buffer);
 }
+
+static void viewer_first_hit(void)
+{
+    number = fenalukki_viewer_first_hit(part, length, FLOATS, 2047);
+}
+
+static void full_cast_counted(void)
+{
+    number = fenalukki_full_cast_counted(part, length, RAY, 2047, buffer, sizeof buffer, totals);
+}
+
+static void first_hit_counted(void)
+{
+    number = fenalukki_first_hit_counted(part, length, RAY, 2047, totals);
+}
+
+static void column_counted(void)
+{
+    number = fenalukki_column_counted(part, length, RAY, buffer, sizeof buffer, totals);
+}
+
+static void viewer_first_hit_counted(void)
+{
+    number = fenalukki_viewer_first_hit_counted(part, length, FLOATS, 2047, totals);
+}
+
+static void check(void)
+{
+    number = fenalukki_check(part, length);
+}
+
+static void place_bounds(void)
+{
+    number = fenalukki_place_bounds(part, length, 10, 20, 30, bounds);
+}
+
+static struct {
+    const char *name;
+    void (*run)(void);
+    size_t most;
+} entries[ENTRIES] = {
+    {"full cast", full_cast, 0},
+    {"first hit", first_hit, 0},
+    {"column", column, 0},
+    {"viewer's first hit", viewer_first_hit, 0},
+    {"full cast counted", full_cast_counted, 0},
+    {"first hit counted", first_hit_counted, 0},
+    {"column counted", column_counted, 0},
+    {"viewer's first hit counted", viewer_first_hit_counted, 0},
+    {"check of a file", check, 0},
+    {"bounds at a place", place_bounds, 0},
+};
 
 static size_t used_by(void (*entry)(void))
 {
@@ -62,29 +116,41 @@ static void read_part(const char *path)
         fclose(file);
 }
 
-static void measure(size_t most[ENTRIES])
+/* Answers whether a call is refused. */
+static int measure(void)
 {
-    static void (*const entries[ENTRIES])(void) = {full_cast, first_hit, column};
-    int i;
+    int i, refused = 0;
 
     for (i = 0; i < ENTRIES; i++) {
-        size_t used = used_by(entries[i]);
+        size_t used = used_by(entries[i].run);
 
-        if (used > most[i])
-            most[i] = used;
+        refused |= number < 65536;
+        if (used > entries[i].most)
+            entries[i].most = used;
     }
+    return refused;
+}
+
+/* Answers whether an entry takes too much. */
+static int print_most(void)
+{
+    int i, failed = 0;
+
+    for (i = 0; i < ENTRIES; i++) {
+        printf("%s%s %lu", i == 0 ? "" : ", ", entries[i].name, (unsigned long)entries[i].most);
+        failed |= entries[i].most > MOST;
+    }
+    printf(" bytes\n");
+    return failed;
 }
 
 int main(int argc, char **argv)
 {
-    size_t most[ENTRIES] = {0, 0, 0};
-    int i;
+    int i, failed = argc < 2;
 
     for (i = 1; i < argc; i++) {
         read_part(argv[i]);
-        measure(most);
+        failed |= measure();
     }
-    printf("full cast %lu bytes, first hit %lu, column %lu\n", (unsigned long)most[0],
-           (unsigned long)most[1], (unsigned long)most[2]);
-    return refused || most[0] > MOST || most[1] > MOST || most[2] > MOST;
+    return print_most() || failed;
 }

@@ -9,18 +9,30 @@
 #include <stdlib.h>
 #include <string.h>
 
+#define FILE_BYTES const uint8_t *file, size_t file_len
 #define ENDS int32_t ax, int32_t ay, int32_t az, int32_t bx, int32_t by, int32_t bz
 #define FLOATS float ax, float ay, float az, float bx, float by, float bz
 #define RAY ax, ay, az, bx, by, bz
+/* The numbers of an accepted call: of one probe, complete or clear. */
+#define COMPLETE 65537u
+#define CLEAR (UINT64_C(3) << 32 | 1)
 
-uint32_t __real_fenalukki_full_cast(const uint8_t *file, size_t file_len, ENDS, uint32_t budget,
-                                    uint8_t *marks, size_t marks_len);
-uint64_t __real_fenalukki_first_hit(const uint8_t *file, size_t file_len, ENDS, uint32_t budget);
-uint32_t __real_fenalukki_column(const uint8_t *file, size_t file_len, ENDS, uint8_t *column,
-                                 size_t column_len);
-uint64_t __real_testhost_view(const uint8_t *file, size_t file_len, FLOATS, uint32_t budget,
-                              uint32_t *totals);
-float __real_testhost_place(const uint8_t *file, size_t file_len, FLOATS, uint32_t budget);
+uint32_t __real_fenalukki_full_cast(FILE_BYTES, ENDS, uint32_t budget, uint8_t *marks,
+                                    size_t marks_len);
+uint64_t __real_fenalukki_first_hit(FILE_BYTES, ENDS, uint32_t budget);
+uint32_t __real_fenalukki_column(FILE_BYTES, ENDS, uint8_t *column, size_t column_len);
+uint64_t __real_fenalukki_viewer_first_hit(FILE_BYTES, FLOATS, uint32_t budget);
+uint32_t __real_fenalukki_full_cast_counted(FILE_BYTES, ENDS, uint32_t budget, uint8_t *marks,
+                                            size_t marks_len, uint32_t *totals);
+uint64_t __real_fenalukki_first_hit_counted(FILE_BYTES, ENDS, uint32_t budget,
+                                            uint32_t *totals);
+uint32_t __real_fenalukki_column_counted(FILE_BYTES, ENDS, uint8_t *column, size_t column_len,
+                                         uint32_t *totals);
+uint64_t __real_fenalukki_viewer_first_hit_counted(FILE_BYTES, FLOATS, uint32_t budget,
+                                                   uint32_t *totals);
+uint64_t __real_fenalukki_check(FILE_BYTES);
+uint32_t __real_fenalukki_place_bounds(FILE_BYTES, int32_t x, int32_t y, int32_t z,
+                                       int64_t *bounds);
 
 static volatile uint8_t seen;
 
@@ -74,8 +86,125 @@ static void touch_buffer(uint32_t number, uint8_t *buffer, size_t length, size_t
         buffer[need - 1] = 0x80;
 }
 
-uint32_t __wrap_fenalukki_full_cast(const uint8_t *file, size_t file_len, ENDS, uint32_t budget,
-                                    uint8_t *marks, size_t marks_len)
+/* Writes beside the totals, or counts otherwise than the call did. */
+static void touch_totals(uint64_t number, uint32_t *totals)
+{
+    int refused = number < 16;
+
+    if (wrong("writes-past-totals"))
+        totals[3] = 0;
+    if (wrong("writes-before-totals"))
+        totals[-1] = 0;
+    if (wrong("refusal-not-counted") && refused && totals[2] > 0)
+        totals[2]--;
+    if (wrong("refusal-as-cast") && refused)
+        totals[0]++;
+    if (wrong("cast-not-counted") && !refused && totals[0] > 0)
+        totals[0]--;
+    if (wrong("probe-not-counted") && !refused)
+        totals[1]--;
+    if (wrong("total-wraps") && !refused && totals[0] == UINT32_MAX)
+        totals[0] = 0;
+}
+
+static uint32_t bytes_at(const uint8_t *at)
+{
+    return at[0] | (uint32_t)at[1] << 8;
+}
+
+/* The trailer's iso-value, and its distance's lower half; 0 of a short file. */
+static uint32_t iso_of(const uint8_t *file, size_t file_len)
+{
+    return file_len < 12 ? 0 : bytes_at(file + file_len - 12);
+}
+
+static uint32_t distance_of(const uint8_t *file, size_t file_len)
+{
+    return file_len < 12 ? 0 : bytes_at(file + file_len - 8);
+}
+
+/* The most values held at once, were no number too great; 0 where the records
+ * are not to be found. */
+static long most_held(const uint8_t *file, size_t file_len)
+{
+    size_t distance = distance_of(file, file_len), at;
+    long held = 0, most = 0;
+
+    if (distance > file_len || distance < 24)
+        return 0;
+    for (at = file_len - distance; at + 24 <= file_len; at += 12) {
+        held += file[at] == 1 ? 1 : -1;
+        if (held > most)
+            most = held;
+    }
+    return most;
+}
+
+/* The number of a full cast by a wrong limit of the file's questions. */
+static uint32_t misjudged(const uint8_t *file, size_t file_len, uint32_t number)
+{
+    int accepted = number >= 65536;
+
+    if (wrong("passes-length-65537") && number == 1 && file_len == 65537)
+        return COMPLETE;
+    if (wrong("refuses-length-65536") && accepted && file_len == 65536)
+        return 1;
+    if (wrong("passes-distance-beyond") && number == 4 &&
+        distance_of(file, file_len) == file_len + 12)
+        return COMPLETE;
+    if (wrong("refuses-distance-6144") && accepted && distance_of(file, file_len) == 6144)
+        return 4;
+    if (wrong("passes-iso-4097") && number == 5 && iso_of(file, file_len) == 4097)
+        return COMPLETE;
+    if (wrong("refuses-iso-4096") && accepted && iso_of(file, file_len) == 4096)
+        return 5;
+    if (wrong("passes-held-65") && number == 10 && most_held(file, file_len) == 65)
+        return COMPLETE;
+    if (wrong("refuses-held-64") && accepted && most_held(file, file_len) == 64)
+        return 10;
+    return number;
+}
+
+static int is_step(int32_t a, int32_t b, int32_t c, int32_t step)
+{
+    return a == step || b == step || c == step || a == -step || b == -step || c == -step;
+}
+
+/* The number of a first hit by a wrong limit of question 12 or 13. */
+static uint64_t misjudged_ray(ENDS, uint64_t number)
+{
+    if (wrong("passes-coordinate-2048") && number == 12 &&
+        (is_step(ax, ay, az, 2048) || is_step(bx, by, bz, 2048)))
+        return CLEAR;
+    if (wrong("refuses-coordinate-2047") && number >= 65536 &&
+        (is_step(ax, ay, az, 2047) || is_step(bx, by, bz, 2047)))
+        return 12;
+    if (wrong("refuses-ends-a-step-apart") && number >= 65536 && ax == bx && ay == by &&
+        az == bz + 1)
+        return 13;
+    return number;
+}
+
+/* A viewer's number that is wrong. */
+static uint64_t misviewed(FLOATS, uint64_t number)
+{
+    int far = ax == 32 || ay == 32 || az == 32 || bx == 32 || by == 32 || bz == 32;
+
+    if (wrong("viewer-leaves-out-tick"))
+        number &= ~(UINT64_C(0xffff) << 16);
+    if (wrong("viewer-crossing-as-inside") && number >> 32 == 1)
+        number += UINT64_C(1) << 32;
+    if (wrong("viewer-refuses-with-12") && number == 15)
+        number = 12;
+    if (wrong("viewer-passes-NaN") && number == 15 && (ax != ax || bz != bz))
+        number = CLEAR;
+    if (wrong("viewer-passes-2048-steps") && number == 15 && far)
+        number = CLEAR;
+    return number;
+}
+
+uint32_t __wrap_fenalukki_full_cast(FILE_BYTES, ENDS, uint32_t budget, uint8_t *marks,
+                                    size_t marks_len)
 {
     uint32_t number = __real_fenalukki_full_cast(file, told_file(file_len), RAY, budget, marks,
                                                  told_room(marks_len));
@@ -90,10 +219,10 @@ uint32_t __wrap_fenalukki_full_cast(const uint8_t *file, size_t file_len, ENDS, 
         number++;
     if (wrong("crossing-as-inside") && number >= 65536 && memchr(marks, 1, 1024) != NULL)
         *(uint8_t *)memchr(marks, 1, 1024) = 2;
-    return number;
+    return misjudged(file, file_len, number);
 }
 
-uint64_t __wrap_fenalukki_first_hit(const uint8_t *file, size_t file_len, ENDS, uint32_t budget)
+uint64_t __wrap_fenalukki_first_hit(FILE_BYTES, ENDS, uint32_t budget)
 {
     uint64_t number = __real_fenalukki_first_hit(file, told_file(file_len), RAY, budget);
 
@@ -102,11 +231,10 @@ uint64_t __wrap_fenalukki_first_hit(const uint8_t *file, size_t file_len, ENDS, 
         number += 65536;
     if (wrong("budget-passed") && number >> 32 == 4)
         number = __real_fenalukki_first_hit(file, file_len, RAY, budget + 1);
-    return number;
+    return misjudged_ray(RAY, number);
 }
 
-uint32_t __wrap_fenalukki_column(const uint8_t *file, size_t file_len, ENDS, uint8_t *column,
-                                 size_t column_len)
+uint32_t __wrap_fenalukki_column(FILE_BYTES, ENDS, uint8_t *column, size_t column_len)
 {
     uint32_t number = __real_fenalukki_column(file, told_file(file_len), RAY, column,
                                               told_room(column_len));
@@ -115,26 +243,110 @@ uint32_t __wrap_fenalukki_column(const uint8_t *file, size_t file_len, ENDS, uin
     touch_buffer(number, column, column_len, 128);
     if (wrong("bit-of-column") && number >= 65536)
         column[127] ^= 0x80;
+    if (wrong("refuses-room-128") && number >= 65536 && column_len == 128)
+        number = 14;
     return number;
 }
 
-uint64_t __wrap_testhost_view(const uint8_t *file, size_t file_len, FLOATS, uint32_t budget,
-                              uint32_t *totals)
+uint64_t __wrap_fenalukki_viewer_first_hit(FILE_BYTES, FLOATS, uint32_t budget)
 {
-    uint64_t number = __real_testhost_view(file, file_len, RAY, budget, totals);
+    uint64_t number = __real_fenalukki_viewer_first_hit(file, told_file(file_len), RAY, budget);
 
-    if (wrong("refusal-not-counted") && number < 16 && totals[2] > 0)
-        totals[2]--;
-    if (wrong("writes-past-totals"))
-        totals[3] = 0;
+    touch_file(file, file_len);
+    return misviewed(RAY, number);
+}
+
+uint32_t __wrap_fenalukki_full_cast_counted(FILE_BYTES, ENDS, uint32_t budget, uint8_t *marks,
+                                            size_t marks_len, uint32_t *totals)
+{
+    uint32_t number = __real_fenalukki_full_cast_counted(
+        file, told_file(file_len), RAY, budget, marks, told_room(marks_len), totals);
+
+    touch_file(file, file_len);
+    touch_buffer(number, marks, marks_len, 1024);
+    touch_totals(number, totals);
+    if (wrong("counted-mark") && number >= 65536)
+        marks[1023] ^= 1;
     return number;
 }
 
-float __wrap_testhost_place(const uint8_t *file, size_t file_len, FLOATS, uint32_t budget)
+uint64_t __wrap_fenalukki_first_hit_counted(FILE_BYTES, ENDS, uint32_t budget,
+                                            uint32_t *totals)
 {
-    float place = __real_testhost_place(file, file_len, RAY, budget);
+    uint64_t number = __real_fenalukki_first_hit_counted(file, told_file(file_len), RAY, budget,
+                                                         totals);
 
-    if (wrong("place-half-a-tick-on") && place > 0)
-        place += 1.0f / 2048.0f;
-    return place;
+    touch_file(file, file_len);
+    touch_totals(number, totals);
+    if (wrong("counted-next-tick") && number >> 32 == 1)
+        number += 65536;
+    return number;
+}
+
+uint32_t __wrap_fenalukki_column_counted(FILE_BYTES, ENDS, uint8_t *column, size_t column_len,
+                                         uint32_t *totals)
+{
+    uint32_t number = __real_fenalukki_column_counted(file, told_file(file_len), RAY, column,
+                                                      told_room(column_len), totals);
+
+    touch_file(file, file_len);
+    touch_buffer(number, column, column_len, 128);
+    touch_totals(number, totals);
+    if (wrong("counted-bit") && number >= 65536)
+        column[0] ^= 1;
+    return number;
+}
+
+uint64_t __wrap_fenalukki_viewer_first_hit_counted(FILE_BYTES, FLOATS, uint32_t budget,
+                                                   uint32_t *totals)
+{
+    uint64_t number = __real_fenalukki_viewer_first_hit_counted(file, told_file(file_len), RAY,
+                                                                budget, totals);
+
+    touch_file(file, file_len);
+    touch_totals(number, totals);
+    if (wrong("counted-clear-as-spent") && number >> 32 == 3)
+        number += UINT64_C(1) << 32;
+    return number;
+}
+
+uint64_t __wrap_fenalukki_check(FILE_BYTES)
+{
+    uint64_t number = __real_fenalukki_check(file, told_file(file_len));
+
+    touch_file(file, file_len);
+    if (wrong("node-too-few") && number >= 65536)
+        number -= 65536;
+    if (wrong("iso-too-great") && number >= 65536)
+        number++;
+    if (wrong("check-passes-held-65") && number == 10 && most_held(file, file_len) == 65)
+        number = (UINT64_C(1) << 32) + 129 * 65536 + iso_of(file, file_len);
+    return number;
+}
+
+uint32_t __wrap_fenalukki_place_bounds(FILE_BYTES, int32_t x, int32_t y, int32_t z,
+                                       int64_t *bounds)
+{
+    uint32_t number = __real_fenalukki_place_bounds(file, told_file(file_len), x, y, z, bounds);
+    int refused = number < 65536;
+
+    touch_file(file, file_len);
+    if (wrong("low-too-great") && !refused)
+        bounds[0]++;
+    if (wrong("high-too-small") && !refused)
+        bounds[1]--;
+    if (wrong("bounds-exchanged") && !refused && bounds[0] != bounds[1]) {
+        bounds[0] ^= bounds[1];
+        bounds[1] ^= bounds[0];
+        bounds[0] ^= bounds[1];
+    }
+    if (wrong("bounds-though-refused") && refused)
+        bounds[1] = 0;
+    if (wrong("writes-past-bounds"))
+        bounds[2] = 0;
+    if (wrong("writes-before-bounds"))
+        bounds[-1] = 0;
+    if (wrong("passes-place-2048") && number == 12 && is_step(x, y, z, 2048))
+        number = 65536;
+    return number;
 }

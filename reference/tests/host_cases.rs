@@ -1,16 +1,17 @@
-//! The C entries of the archive on every ray of "Rays and places tried", on
-//! each refusal, on a small stack, on several threads and from C.
+//! The C entries of the archive on every ray and place of "Rays and places
+//! tried", on each refusal, on a small stack, on several threads and from C.
 
 #[path = "common/host.rs"]
 mod host;
 #[path = "common/worked.rs"]
 mod worked;
 
-use host::{column, entries, first_hit, full_cast};
+use host::{check, column, entries, first_hit, full_cast, place_bounds};
 use reference::cast::{Column, FirstHit, FullCast, Mark};
-use reference::field::Ray;
+use reference::field::{Bounds, Ray};
 use reference::generate::fault;
 use reference::part::FileBuilder;
+use reference::view::ViewRay;
 use std::fs;
 use std::path::{Path, PathBuf};
 use std::process::Command;
@@ -24,7 +25,17 @@ fn marks(file: &[u8], ray: &Ray) -> [u8; 1024] {
     marks
 }
 
-/// All three calls refuse with the number.
+/// The check of a file and the bounds at a place refuse with the number, and
+/// the casting calls too.
+fn assert_file_refused(file: &[u8], number: u32) {
+    assert_eq!(check(file), Err(number));
+    for at in [[0; 3], [2047; 3], [2048; 3], [i32::MIN; 3]] {
+        assert_eq!(place_bounds(file, at), Err(number));
+    }
+    assert_refused(file, &AXIS, number);
+}
+
+/// The three calls on a ray refuse with the number.
 fn assert_refused(file: &[u8], ray: &Ray, number: u32) {
     for room in [0, 127, 128, 1023, 1024, 2000] {
         let cast = full_cast(file, ray, 2047, room);
@@ -114,22 +125,60 @@ fn an_inside_hit() {
 }
 
 #[test]
+fn checked_files() {
+    assert_eq!(check(&file_k()), Ok((1, 1)));
+    assert_eq!(entries::check(&file_k()), (1 << 32) + (1 << 16) + 1);
+    let (most, _) = most_records();
+    assert_eq!(check(&most), Ok((511, 1)));
+    let iso = |iso| FileBuilder::new(iso).point(1, [0; 3], 1).build();
+    assert_eq!(entries::check(&iso(4096)), (1 << 32) + (1 << 16) + 4096);
+    assert_eq!(check(&iso(4096)), Ok((1, 4096)));
+    assert_file_refused(&iso(4097), 5);
+}
+
+/// The starred places, and the reach's last places.
+#[test]
+fn worked_places() {
+    let both = |low, high| Ok(Bounds { low, high });
+    let k = file_k();
+    let centre = 17_179_869_184;
+    assert_eq!(place_bounds(&k, [0, 0, 0]), both(centre, centre));
+    assert_eq!(place_bounds(&k, [512, 0, 0]), both(0, 0));
+    let near = 4_296_802_500;
+    assert_eq!(place_bounds(&k, [362, 0, 0]), both(near, near));
+    let small = |w| FileBuilder::new(1).point(3, [0; 3], w).build();
+    let (low, high) = (3_393_528_516, 3_393_645_025);
+    assert_eq!(place_bounds(&small(1), [1, 0, 0]), both(low, high));
+    assert_eq!(place_bounds(&small(-1), [1, 0, 0]), both(-high, -low));
+    for c in [2047, -2047] {
+        assert_eq!(place_bounds(&k, [c; 3]), both(0, 0));
+    }
+    for value in [2048, -2048, 65_536, i32::MAX, i32::MIN] {
+        for i in 0..3 {
+            let mut at = [0; 3];
+            at[i] = value;
+            assert_eq!(place_bounds(&k, at), Err(12));
+        }
+    }
+}
+
+#[test]
 fn refused_files() {
     let radius = |r| FileBuilder::new(1).point(r, [0; 3], 4).build();
     assert!(full_cast(&radius(1024), &AXIS, 2047, 1024)
         .probes()
         .is_some());
-    assert_refused(&radius(1025), &AXIS, 8);
-    assert_refused(&FileBuilder::new(1).sum().build(), &AXIS, 9);
+    assert_file_refused(&radius(1025), 8);
+    assert_file_refused(&FileBuilder::new(1).sum().build(), 9);
     let held = (0..65).fold(FileBuilder::new(1), |b, _| b.point(1, [0; 3], 1));
-    assert_refused(&held.build(), &AXIS, 10);
+    assert_file_refused(&held.build(), 10);
     let k = FileBuilder::new(1).point(512, [0; 3], 4);
-    assert_refused(&k.clone().mark([0; 4]).version(9).build(), &AXIS, 2);
+    assert_file_refused(&k.clone().mark([0; 4]).version(9).build(), 2);
     for question in 1..=11 {
-        assert_refused(&fault(k.clone(), question).build(), &AXIS, question);
+        assert_file_refused(&fault(k.clone(), question).build(), question);
     }
     for length in 0..24 {
-        assert_refused(&k.build()[..length], &AXIS, 1);
+        assert_file_refused(&k.build()[..length], 1);
     }
 }
 
@@ -183,16 +232,34 @@ fn most_records() -> (Vec<u8>, Ray) {
     (file.build(), at_y(300))
 }
 
+/// The ray in millimetres.
+fn in_millimetres(ray: &Ray) -> ViewRay {
+    let [a, b] = [ray.a, ray.b].map(|end| end.map(|c| c as f32 / 64.0));
+    ViewRay { a, b }
+}
+
 #[test]
 fn a_stack_of_64_kib() {
     let calls = || {
         let (file, ray) = most_records();
+        let view = in_millimetres(&ray);
         let (mut marks, mut bits) = (vec![9; 1024], vec![9; 128]);
+        let (mut totals, mut bounds) = ([0; 3], [0; 2]);
         let cast = entries::full_cast(&file, &ray, 2047, &mut marks);
-        let done = entries::column(&file, &ray, &mut bits);
-        assert_eq!(cast, done);
         assert!(cast > 65_536 + 100);
-        assert!(entries::first_hit(&file, &ray, 2047) > 65_536);
+        let counted = entries::full_cast_counted(&file, &ray, 2047, &mut marks, &mut totals);
+        let column = entries::column(&file, &ray, &mut bits);
+        let counted_column = entries::column_counted(&file, &ray, &mut bits, &mut totals);
+        assert_eq!([counted, column, counted_column], [cast; 3]);
+        let hit = entries::first_hit(&file, &ray, 2047);
+        assert!(hit > 65_536);
+        let counted = entries::first_hit_counted(&file, &ray, 2047, &mut totals);
+        let viewer = entries::viewer_first_hit(&file, &view, 2047);
+        let counted_viewer = entries::viewer_first_hit_counted(&file, &view, 2047, &mut totals);
+        assert_eq!([counted, viewer, counted_viewer], [hit; 3]);
+        assert_eq!((totals[0], totals[2]), (4, 0));
+        assert_eq!(entries::check(&file) >> 16, 65_536 + 511);
+        assert_eq!(entries::place_bounds(&file, ray.a, &mut bounds), 65_536);
     };
     let small = thread::Builder::new().stack_size(64 * 1024);
     small.spawn(calls).expect("starts").join().expect("ends");

@@ -8,11 +8,11 @@ mod host;
 mod requests;
 
 use reference::cast::{self, Column, FirstHit, FullCast, Mark};
-use reference::field::Ray;
+use reference::field::{Bounds, Ray};
 use reference::generate::{self, cancelling, part_of_form};
 use reference::generate::{Form, SplitMix64, Style, FORMS};
-use reference::part::{check, FileBuilder, Part};
-use requests::{file, ray, GROUPS};
+use reference::part::{FileBuilder, Part};
+use requests::{file, place, ray, GROUPS};
 
 /// What the requests covered.
 #[derive(Debug, Default)]
@@ -27,6 +27,10 @@ struct Coverage {
     clear: u32,
     hits_spent: u32,
     columns: u32,
+    checked: u32,
+    /// Places with equal bounds other than 0, with different ones, and outside
+    /// every point.
+    places: [u32; 3],
     /// Requests not refused by their place in `budget`.
     budgets: [u32; 7],
     /// Requests by their place in `room`.
@@ -74,6 +78,26 @@ impl Coverage {
         }
     }
 
+    fn check(&mut self, answer: Result<(u32, u32), u32>) {
+        self.requests += 1;
+        match answer {
+            Err(number) => self.refused[number as usize] += 1,
+            Ok((nodes, _)) => {
+                self.checked += 1;
+                self.most_records += u32::from(nodes == 511);
+            }
+        }
+    }
+
+    fn place(&mut self, answer: Result<Bounds, u32>) {
+        self.requests += 1;
+        match answer {
+            Err(number) => self.refused[number as usize] += 1,
+            Ok(Bounds { low: 0, high: 0 }) => self.places[2] += 1,
+            Ok(Bounds { low, high }) => self.places[usize::from(low < high)] += 1,
+        }
+    }
+
     /// Room for `need` bytes.
     fn room(&mut self, random: &mut SplitMix64, need: usize) -> usize {
         let (kind, room) = requests::room(random, need);
@@ -84,40 +108,44 @@ impl Coverage {
     /// No class of requests is rare.
     fn assert_populated(&self) {
         let all = |classes: &[u32], least: u32| classes.iter().all(|&n| n >= least);
-        assert_eq!(self.requests, 98_500);
+        assert_eq!(self.requests, 137_900);
         assert!(all(&self.refused[1..], 400));
         assert!(all(&[self.complete, self.spent, self.columns], 6_000));
         assert!(all(&[self.crossing_hits, self.inside_hits], 2_000));
         assert!(all(&[self.clear, self.hits_spent], 6_000));
+        assert!(all(&self.places, 300) && self.checked >= 6_000);
         assert!(all(&self.budgets, 5_000) && all(&self.rooms, 2_500));
         assert!(all(&self.probes, 200) && self.most_records >= 200);
     }
 }
 
-/// A file, a ray, and the probes that a full cast and a first hit need.
+/// A file, a ray, a place, and the probes that a full cast and a first hit need.
 struct Scene {
     file: Vec<u8>,
     ray: Ray,
+    place: [i32; 3],
     cast_count: u32,
     hit_count: u32,
 }
 
 impl Scene {
-    fn new(file: Vec<u8>, ray: Ray) -> Scene {
+    fn new(file: Vec<u8>, ray: Ray, place: [i32; 3]) -> Scene {
         let cast = cast::column(&file, &ray, &mut [0; 128]);
         let hit = cast::first_hit(&file, &ray, u32::MAX);
         Scene {
             file,
             ray,
+            place,
             cast_count: cast.probes().unwrap_or(1),
             hit_count: hit.probes().unwrap_or(1),
         }
     }
 
-    /// Two full casts, two first hits and a column.
+    /// A check of the file, the bounds at the place, two full casts, two first
+    /// hits and a column.
     fn compare(&self, random: &mut SplitMix64, coverage: &mut Coverage) {
-        let most = matches!(check(&self.file), Ok((511, _)));
-        coverage.most_records += u32::from(most);
+        coverage.check(host::check(&self.file));
+        coverage.place(host::place_bounds(&self.file, self.place));
         for _ in 0..2 {
             let kind = random.between(0, 6) as usize;
             let budget = requests::budget(kind, self.cast_count);
@@ -145,7 +173,8 @@ fn compare_all(
         let part = part(random, i);
         let file = file(random, &part);
         let ray = ray(random, &part);
-        Scene::new(file, ray).compare(random, coverage);
+        let place = place(random, &part);
+        Scene::new(file, ray, place).compare(random, coverage);
     }
 }
 
@@ -170,10 +199,12 @@ fn cut_files() {
         let part = part_of_form(&mut random, shape, Form::Mixed);
         let file = FileBuilder::from(&part).leading(&[1; 30]).build();
         let ray = generate::ray(&mut random, &part, Style::Centre);
+        let place = place(&mut random, &part);
         for length in 0..=file.len() {
-            Scene::new(file[..length].to_vec(), ray).compare(&mut random, &mut coverage);
+            let start = file[..length].to_vec();
+            Scene::new(start, ray, place).compare(&mut random, &mut coverage);
             let end = file[file.len() - length..].to_vec();
-            Scene::new(end, ray).compare(&mut random, &mut coverage);
+            Scene::new(end, ray, place).compare(&mut random, &mut coverage);
         }
     }
     println!("{coverage:#?}");

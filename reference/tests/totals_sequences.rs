@@ -1,5 +1,5 @@
-//! The running totals that the archive's calls hand on: sequences of all four
-//! calls, refusals among them, from zero and from values near the ceiling.
+//! The running totals that the archive's counted calls leave: sequences of all
+//! four, refusals among them, from zero and from values near the ceiling.
 
 #[path = "common/counted.rs"]
 mod counted;
@@ -51,7 +51,8 @@ struct Request {
 }
 
 enum Call {
-    /// On a ray in steps, by its number and with room for that many bytes.
+    /// On a ray in steps: 0 full cast, 1 first hit, 2 column, with room for so
+    /// many bytes.
     Steps { which: u32, ray: Ray, room: usize },
     /// The viewer's.
     View(ViewRay),
@@ -64,7 +65,7 @@ impl Request {
         let part = part_of_form(random, &shape, form);
         let file = file(random, &part);
         let ray = ray(random, &part);
-        let which = random.pick(&[0, 0, 0, 0, 1, 1, 1, 1, 2, 3, 256, TOP]);
+        let which = random.pick(&[0, 1, 2]);
         let room = random.pick(&[0, 127, 128, 1023, 1024, 1024, 1024, 1024, 1200, 1200]);
         let call = match random.one_in(4) {
             true => Call::View(in_millimetres(&ray)),
@@ -83,15 +84,15 @@ impl Request {
         }
     }
 
-    /// The number that the archive alone answers and the bytes it leaves, or
-    /// those of the viewer's place.
+    /// The number that the archive alone answers and the bytes it leaves; the
+    /// viewer's first hit leaves none.
     fn answer(&self, totals: &mut Totals) -> (u64, Vec<u8>) {
         let (file, budget) = (&self.file, self.budget);
         let (number, bytes, after) = match &self.call {
             Call::Steps { which, ray, room } => called(file, *which, ray, budget, *room, *totals),
             Call::View(ray) => {
-                let (number, place, after) = viewed(file, ray, budget, *totals);
-                (number, place.to_le_bytes().to_vec(), after)
+                let (number, after) = viewed(file, ray, budget, *totals);
+                (number, Vec::new(), after)
             }
         };
         *totals = after;
@@ -101,7 +102,7 @@ impl Request {
     /// Its place in the coverage: full cast, first hit, column, viewer's.
     fn kind(&self) -> usize {
         match self.call {
-            Call::Steps { which, .. } => which.min(2) as usize,
+            Call::Steps { which, .. } => which as usize,
             Call::View(_) => 3,
         }
     }

@@ -157,10 +157,9 @@ fn the_axis_ray() {
         let spent = matches!(answer, ViewerHit::Spent { .. });
         assert_eq!(spent, budget < 15);
     }
-    let entry = counted::test_entries::place(&k, &ray, 15);
-    assert_eq!(entry.to_bits(), 0x3ea5_0000);
-    let number = counted::test_entries::view(&k, &ray, 15, &mut [0; 3]);
-    assert_eq!(number, (1 << 32) + 15);
+    let number = counted::entries::viewer_first_hit(&k, &ray, 15);
+    assert_eq!(number, (1 << 32) + (330 << 16) + 15);
+    assert_eq!(counted::place_of(number).to_bits(), 0x3ea5_0000);
 }
 
 #[test]

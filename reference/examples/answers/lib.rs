@@ -1,8 +1,12 @@
-//! The reference's three calls by the C calling convention, for
-//! `robust/fuzz.c`. Parameters and numbers are those of `include/fenalukki.h`.
+//! The reference's calls by the C calling convention, for `robust/fuzz.c`.
+//! Parameters and numbers are those of `include/fenalukki.h`.
+
+#[path = "../../tests/common/expected.rs"]
+mod expected;
 
 use reference::cast;
 use reference::field::Ray;
+use reference::view::ViewRay;
 use std::slice;
 
 /// The bytes of a file.
@@ -96,4 +100,53 @@ pub unsafe extern "C" fn reference_column(
     let (a, b) = ([ax, ay, az], [bx, by, bz]);
     let column = bytes_mut(column, column_len);
     cast::column(bytes(file, file_len), &Ray { a, b }, column).number()
+}
+
+/// The number of a viewer's first hit.
+///
+/// # Safety
+///
+/// As the header says of `fenalukki_viewer_first_hit`.
+#[no_mangle]
+pub unsafe extern "C" fn reference_viewer_first_hit(
+    file: *const u8,
+    file_len: usize,
+    ax: f32,
+    ay: f32,
+    az: f32,
+    bx: f32,
+    by: f32,
+    bz: f32,
+    budget: u32,
+) -> u64 {
+    let (a, b) = ([ax, ay, az], [bx, by, bz]);
+    expected::viewed(bytes(file, file_len), ViewRay { a, b }, budget).0
+}
+
+/// The number of the check of a file.
+///
+/// # Safety
+///
+/// As the header says of `fenalukki_check`.
+#[no_mangle]
+pub unsafe extern "C" fn reference_check(file: *const u8, file_len: usize) -> u64 {
+    expected::check_number(bytes(file, file_len))
+}
+
+/// The number of the bounds at a place, which are given as 16 bytes.
+///
+/// # Safety
+///
+/// As the header says of `fenalukki_place_bounds`.
+#[no_mangle]
+pub unsafe extern "C" fn reference_place_bounds(
+    file: *const u8,
+    file_len: usize,
+    x: i32,
+    y: i32,
+    z: i32,
+    bounds: *mut u8,
+) -> u32 {
+    let bounds = bytes_mut(bounds, 16);
+    expected::bounds_number(bytes(file, file_len), [x, y, z], bounds) as u32
 }

@@ -1,15 +1,29 @@
 //! The C entries of the archive, as `include/fenalukki.h` declares them.
 
+#![allow(dead_code)]
+
 #[cfg(not(archive))]
 compile_error!(
     "target/staticlib/libfenalukki.a is missing: build it at the repository's root by: rt staticlib fenalukki"
 );
 
 use reference::field::Ray;
+use reference::view::ViewRay;
 use std::ptr::{null, null_mut};
 
 #[link(name = "fenalukki", kind = "static")]
 extern "C" {
+    fn fenalukki_check(file: *const u8, file_len: usize) -> u64;
+
+    fn fenalukki_place_bounds(
+        file: *const u8,
+        file_len: usize,
+        x: i32,
+        y: i32,
+        z: i32,
+        bounds: *mut i64,
+    ) -> u32;
+
     fn fenalukki_full_cast(
         file: *const u8,
         file_len: usize,
@@ -48,10 +62,77 @@ extern "C" {
         column: *mut u8,
         column_len: usize,
     ) -> u32;
+
+    fn fenalukki_viewer_first_hit(
+        file: *const u8,
+        file_len: usize,
+        ax: f32,
+        ay: f32,
+        az: f32,
+        bx: f32,
+        by: f32,
+        bz: f32,
+        budget: u32,
+    ) -> u64;
+
+    fn fenalukki_full_cast_counted(
+        file: *const u8,
+        file_len: usize,
+        ax: i32,
+        ay: i32,
+        az: i32,
+        bx: i32,
+        by: i32,
+        bz: i32,
+        budget: u32,
+        marks: *mut u8,
+        marks_len: usize,
+        totals: *mut u32,
+    ) -> u32;
+
+    fn fenalukki_first_hit_counted(
+        file: *const u8,
+        file_len: usize,
+        ax: i32,
+        ay: i32,
+        az: i32,
+        bx: i32,
+        by: i32,
+        bz: i32,
+        budget: u32,
+        totals: *mut u32,
+    ) -> u64;
+
+    fn fenalukki_column_counted(
+        file: *const u8,
+        file_len: usize,
+        ax: i32,
+        ay: i32,
+        az: i32,
+        bx: i32,
+        by: i32,
+        bz: i32,
+        column: *mut u8,
+        column_len: usize,
+        totals: *mut u32,
+    ) -> u32;
+
+    fn fenalukki_viewer_first_hit_counted(
+        file: *const u8,
+        file_len: usize,
+        ax: f32,
+        ay: f32,
+        az: f32,
+        bx: f32,
+        by: f32,
+        bz: f32,
+        budget: u32,
+        totals: *mut u32,
+    ) -> u64;
 }
 
 /// The file's pointer, null where there are no bytes.
-pub fn start(file: &[u8]) -> *const u8 {
+fn start(file: &[u8]) -> *const u8 {
     if file.is_empty() {
         null()
     } else {
@@ -60,7 +141,7 @@ pub fn start(file: &[u8]) -> *const u8 {
 }
 
 /// The buffer's pointer, null where there are no bytes.
-pub fn start_mut(buffer: &mut [u8]) -> *mut u8 {
+fn start_mut(buffer: &mut [u8]) -> *mut u8 {
     if buffer.is_empty() {
         null_mut()
     } else {
@@ -68,8 +149,20 @@ pub fn start_mut(buffer: &mut [u8]) -> *mut u8 {
     }
 }
 
+/// The number of the check of a file.
+pub fn check(file: &[u8]) -> u64 {
+    // SAFETY: the pointer is valid for its length.
+    unsafe { fenalukki_check(start(file), file.len()) }
+}
+
+/// The number of the bounds at a place.
+pub fn place_bounds(file: &[u8], [x, y, z]: [i32; 3], bounds: &mut [i64; 2]) -> u32 {
+    let to = bounds.as_mut_ptr();
+    // SAFETY: both pointers are valid for their lengths and do not overlap.
+    unsafe { fenalukki_place_bounds(start(file), file.len(), x, y, z, to) }
+}
+
 /// The number of a full cast.
-#[allow(dead_code)]
 pub fn full_cast(file: &[u8], ray: &Ray, budget: u32, marks: &mut [u8]) -> u32 {
     let ([ax, ay, az], [bx, by, bz]) = (ray.a, ray.b);
     let (at, len) = (start(file), file.len());
@@ -79,7 +172,6 @@ pub fn full_cast(file: &[u8], ray: &Ray, budget: u32, marks: &mut [u8]) -> u32 {
 }
 
 /// The number of a first hit.
-#[allow(dead_code)]
 pub fn first_hit(file: &[u8], ray: &Ray, budget: u32) -> u64 {
     let ([ax, ay, az], [bx, by, bz]) = (ray.a, ray.b);
     let (at, len) = (start(file), file.len());
@@ -88,11 +180,63 @@ pub fn first_hit(file: &[u8], ray: &Ray, budget: u32) -> u64 {
 }
 
 /// The number of a column.
-#[allow(dead_code)]
 pub fn column(file: &[u8], ray: &Ray, column: &mut [u8]) -> u32 {
     let ([ax, ay, az], [bx, by, bz]) = (ray.a, ray.b);
     let (at, len) = (start(file), file.len());
     let (to, room) = (start_mut(column), column.len());
     // SAFETY: both pointers are valid for their lengths and do not overlap.
     unsafe { fenalukki_column(at, len, ax, ay, az, bx, by, bz, to, room) }
+}
+
+/// The number of a viewer's first hit.
+pub fn viewer_first_hit(file: &[u8], ray: &ViewRay, budget: u32) -> u64 {
+    let ([ax, ay, az], [bx, by, bz]) = (ray.a, ray.b);
+    let (at, len) = (start(file), file.len());
+    // SAFETY: the pointer is valid for its length.
+    unsafe { fenalukki_viewer_first_hit(at, len, ax, ay, az, bx, by, bz, budget) }
+}
+
+/// The number of a full cast that counts.
+pub fn full_cast_counted(
+    file: &[u8],
+    ray: &Ray,
+    budget: u32,
+    marks: &mut [u8],
+    totals: &mut [u32; 3],
+) -> u32 {
+    let ([ax, ay, az], [bx, by, bz]) = (ray.a, ray.b);
+    let (at, len, sums) = (start(file), file.len(), totals.as_mut_ptr());
+    let (to, room) = (start_mut(marks), marks.len());
+    // SAFETY: all pointers are valid for their lengths and do not overlap.
+    unsafe { fenalukki_full_cast_counted(at, len, ax, ay, az, bx, by, bz, budget, to, room, sums) }
+}
+
+/// The number of a first hit that counts.
+pub fn first_hit_counted(file: &[u8], ray: &Ray, budget: u32, totals: &mut [u32; 3]) -> u64 {
+    let ([ax, ay, az], [bx, by, bz]) = (ray.a, ray.b);
+    let (at, len, sums) = (start(file), file.len(), totals.as_mut_ptr());
+    // SAFETY: both pointers are valid for their lengths and do not overlap.
+    unsafe { fenalukki_first_hit_counted(at, len, ax, ay, az, bx, by, bz, budget, sums) }
+}
+
+/// The number of a column that counts.
+pub fn column_counted(file: &[u8], ray: &Ray, column: &mut [u8], totals: &mut [u32; 3]) -> u32 {
+    let ([ax, ay, az], [bx, by, bz]) = (ray.a, ray.b);
+    let (at, len, sums) = (start(file), file.len(), totals.as_mut_ptr());
+    let (to, room) = (start_mut(column), column.len());
+    // SAFETY: all pointers are valid for their lengths and do not overlap.
+    unsafe { fenalukki_column_counted(at, len, ax, ay, az, bx, by, bz, to, room, sums) }
+}
+
+/// The number of a viewer's first hit that counts.
+pub fn viewer_first_hit_counted(
+    file: &[u8],
+    ray: &ViewRay,
+    budget: u32,
+    totals: &mut [u32; 3],
+) -> u64 {
+    let ([ax, ay, az], [bx, by, bz]) = (ray.a, ray.b);
+    let (at, len, sums) = (start(file), file.len(), totals.as_mut_ptr());
+    // SAFETY: both pointers are valid for their lengths and do not overlap.
+    unsafe { fenalukki_viewer_first_hit_counted(at, len, ax, ay, az, bx, by, bz, budget, sums) }
 }

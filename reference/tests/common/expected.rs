@@ -1,12 +1,14 @@
-//! The reference's answers as the test entries give them, and a ray as the
-//! viewer hands it over.
+//! The reference's answers as the C entries give them, and a ray as the viewer
+//! hands it over.
 
 use reference::cast;
 use reference::field::Ray;
-use reference::view::{ViewRay, ViewerHit};
+use reference::part;
+use reference::view::{viewer_first_hit, ViewRay, ViewerHit};
 
 /// The reference's number and probes of a full cast if `which` is 0, of a first
 /// hit if it is 1, else of a column.
+#[allow(dead_code)]
 pub fn answered(
     file: &[u8],
     which: u32,
@@ -30,7 +32,16 @@ pub fn answered(
     }
 }
 
-/// The number and the place that the test entries give for the answer.
+/// The reference's number and probes of a viewer's first hit.
+#[allow(dead_code)]
+pub fn viewed(file: &[u8], ray: ViewRay, budget: u32) -> (u64, Option<u32>) {
+    let answer = viewer_first_hit(file, ray, budget);
+    (number_and_place(answer).0, answer.probes())
+}
+
+/// The number that the entry gives for the viewer's answer, and the answer's
+/// place, or 0.
+#[allow(dead_code)]
 pub fn number_and_place(answer: ViewerHit) -> (u64, f32) {
     let (k, place, probes) = match answer {
         ViewerHit::Refused(number) => return (u64::from(number), 0.0),
@@ -42,10 +53,42 @@ pub fn number_and_place(answer: ViewerHit) -> (u64, f32) {
         ViewerHit::Clear { probes } => (3, 0.0, probes),
         ViewerHit::Spent { reached, probes } => (4, reached, probes),
     };
-    (k * 4_294_967_296 + u64::from(probes), place)
+    let number = k * 4_294_967_296 + tick(place) * 65_536 + u64::from(probes);
+    (number, place)
+}
+
+/// The tick that starts exactly at the place.
+fn tick(place: f32) -> u64 {
+    let ticks = f64::from(place) * 1024.0;
+    assert_eq!(ticks, ticks.trunc());
+    ticks as u64
+}
+
+/// The number of the check of a file.
+#[allow(dead_code)]
+pub fn check_number(file: &[u8]) -> u64 {
+    match part::check(file) {
+        Ok((nodes, iso)) => 4_294_967_296 + u64::from(nodes) * 65_536 + u64::from(iso),
+        Err(number) => u64::from(number),
+    }
+}
+
+/// The number of the bounds at a place, and the two bounds as 16 bytes, written
+/// unless refused.
+#[allow(dead_code)]
+pub fn bounds_number(file: &[u8], at: [i32; 3], bytes: &mut [u8]) -> u64 {
+    match cast::bounds_at(file, at) {
+        Ok(bounds) => {
+            bytes[..8].copy_from_slice(&bounds.low.to_le_bytes());
+            bytes[8..16].copy_from_slice(&bounds.high.to_le_bytes());
+            65_536
+        }
+        Err(number) => u64::from(number),
+    }
 }
 
 /// A ray in millimetres.
+#[allow(dead_code)]
 pub fn in_millimetres(ray: &Ray) -> ViewRay {
     let millimetres = |end: [i32; 3]| end.map(|c| c as f32 / 64.0);
     ViewRay {

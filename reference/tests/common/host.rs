@@ -1,6 +1,7 @@
 //! Calls of the C entries as the slicing host makes them, each compared with
-//! the reference: the number, every byte of the buffer and around it, and the
-//! file, which stays as it was. They answer the reference's answer.
+//! the reference: the number, every byte of the buffer or of the bounds and
+//! around them, and the file, which stays as it was. They answer the reference's
+//! answer.
 
 #[path = "entries.rs"]
 pub mod entries;
@@ -9,7 +10,47 @@ mod guards;
 
 use guards::in_guards;
 use reference::cast::{self, Column, FirstHit, FullCast};
-use reference::field::Ray;
+use reference::field::{Bounds, Ray};
+use reference::part;
+
+/// The numbers of the bounds before a call, and around them.
+const GUARD: i64 = 0x5a5a_5a5a_5a5a_5a5a;
+
+/// The check of a file.
+#[allow(dead_code)]
+pub fn check(file: &[u8]) -> Result<(u32, u32), u32> {
+    let copy = file.to_vec();
+    let number = entries::check(&copy);
+    let answer = part::check(file);
+    let expected = match answer {
+        Ok((nodes, iso)) => (1 << 32) + (u64::from(nodes) << 16) + u64::from(iso),
+        Err(number) => u64::from(number),
+    };
+    assert_eq!(number, expected, "{file:?}");
+    assert_eq!(copy, file);
+    answer
+}
+
+/// The bounds at a place.
+#[allow(dead_code)]
+pub fn place_bounds(file: &[u8], at: [i32; 3]) -> Result<Bounds, u32> {
+    let copy = file.to_vec();
+    let mut words = [[GUARD; 2]; 3];
+    let number = entries::place_bounds(&copy, at, &mut words[1]);
+    let answer = cast::bounds_at(file, at);
+    let (expected, [low, high]) = match answer {
+        Ok(bounds) => (65_536, [bounds.low, bounds.high]),
+        Err(number) => (number, [GUARD; 2]),
+    };
+    assert_eq!(number, expected, "{at:?} {file:?}");
+    assert_eq!(
+        words,
+        [[GUARD; 2], [low, high], [GUARD; 2]],
+        "{at:?} {file:?}"
+    );
+    assert_eq!(copy, file);
+    answer
+}
 
 /// A full cast.
 pub fn full_cast(file: &[u8], ray: &Ray, budget: u32, room: usize) -> FullCast {

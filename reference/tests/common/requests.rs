@@ -3,7 +3,7 @@
 use reference::field::Ray;
 use reference::generate::{self, fault, mutate, random_bytes, random_records};
 use reference::generate::{Shape, SplitMix64, STYLES};
-use reference::part::{FileBuilder, Part};
+use reference::part::{FileBuilder, Kind, Node, Part, REACH};
 
 /// The file of a part; a damaged one, or other bytes, once in five.
 #[allow(dead_code)]
@@ -36,6 +36,25 @@ pub fn ray(random: &mut SplitMix64, part: &Part) -> Ray {
         _ => {}
     }
     ray
+}
+
+/// A place, mostly one within a point's radius of it; one that is refused once
+/// in ten.
+#[allow(dead_code)]
+pub fn place(random: &mut SplitMix64, part: &Part) -> [i32; 3] {
+    let far = random.pick(&[2048, -2048, 65_536, i32::MAX, i32::MIN]);
+    let of_points = part.nodes.iter().copied();
+    let points: Vec<Node> = of_points.filter(|node| node.kind == Kind::Point).collect();
+    let Node { r, x, y, z, .. } = random.pick(&points);
+    let most = i64::from(r) * 5 / 8;
+    let mut at = [x, y, z].map(|c| {
+        let near = i32::from(c) + random.between(-most, most) as i32;
+        near.clamp(-REACH, REACH)
+    });
+    if random.one_in(10) {
+        at[random.between(0, 2) as usize] = far;
+    }
+    at
 }
 
 /// The budget of a kind, 0 to 6, for a call that needs `count` probes.

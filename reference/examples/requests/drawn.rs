@@ -1,0 +1,109 @@
+//! Requests drawn at random.
+
+use crate::damaged::damaged;
+use crate::expected::in_millimetres;
+use crate::floats::changed;
+use crate::request::{casting, is_counted, need, six};
+use crate::request::{Request, BOUNDS, CHECK, COLUMN, COUNTED, FIRST_HIT, FULL_CAST, VIEW};
+use crate::requests;
+use reference::generate::{cancelling, part_of_form, SplitMix64, FORMS};
+use reference::part::{FileBuilder, Part};
+use reference::totals::Totals;
+
+/// The calls, each as often as it is drawn.
+const DRAWN: [u8; 16] = [
+    FULL_CAST,
+    FULL_CAST,
+    FULL_CAST,
+    FIRST_HIT,
+    FIRST_HIT,
+    COLUMN,
+    COLUMN,
+    VIEW,
+    VIEW,
+    FULL_CAST + COUNTED,
+    FIRST_HIT + COUNTED,
+    COLUMN + COUNTED,
+    VIEW + COUNTED,
+    CHECK,
+    BOUNDS,
+    BOUNDS,
+];
+
+/// A request on a damaged file or on a whole one.
+pub fn drawn(random: &mut SplitMix64, on_damaged: bool) -> Request {
+    let part = part(random);
+    let call = random.pick(&DRAWN);
+    let file = match on_damaged {
+        true => damaged(random, &part),
+        false => FileBuilder::from(&part).build(),
+    };
+    let mut request = Request {
+        call,
+        damaged: on_damaged,
+        file,
+        ray: ray(random, &part, call),
+        room: room(random, call),
+        ..Request::default()
+    };
+    let count = request.probes().unwrap_or(1);
+    request.budget = requests::budget(random.between(0, 6) as usize, count);
+    if is_counted(call) {
+        request.totals = totals(random);
+    }
+    request.answered()
+}
+
+/// A part of one of the groups, each as often as its number says, or one that
+/// nearly cancels, as often as the first.
+fn part(random: &mut SplitMix64) -> Part {
+    let groups = requests::GROUPS.map(|(scenes, shape)| (scenes as i64, shape));
+    let all: i64 = groups.iter().map(|(scenes, _)| scenes).sum();
+    let mut at = random.between(0, all + groups[0].0 - 1);
+    let group = groups.iter().find(|(scenes, _)| {
+        at -= scenes;
+        at < 0
+    });
+    match group {
+        Some((_, shape)) => {
+            let form = random.pick(&FORMS);
+            part_of_form(random, shape, form)
+        }
+        None => cancelling(random),
+    }
+}
+
+/// A ray in steps, or in floats of which one may be no step, or a place.
+fn ray(random: &mut SplitMix64, part: &Part, call: u8) -> [u32; 6] {
+    if call == BOUNDS {
+        return six(requests::place(random, part), [0; 3], |c| c as u32);
+    }
+    let ray = requests::ray(random, part);
+    if casting(call) == Some(VIEW) {
+        let (ray, _) = changed(random, &in_millimetres(&ray));
+        return six(ray.a, ray.b, f32::to_bits);
+    }
+    six(ray.a, ray.b, |c| c as u32)
+}
+
+/// Room for the marks or the column, too little at times; for two bounds always.
+fn room(random: &mut SplitMix64, call: u8) -> usize {
+    match (call, need(call)) {
+        (_, 0) => 0,
+        (BOUNDS, need) => need,
+        (_, need) => requests::room(random, need).1,
+    }
+}
+
+/// Totals, each near the ceiling once in four.
+pub fn totals(random: &mut SplitMix64) -> Totals {
+    let [casts, probes, refusals] = [(); 3].map(|()| match random.one_in(4) {
+        true => u32::MAX - random.between(0, 40) as u32,
+        false => random.next_u64() as u32,
+    });
+    Totals {
+        casts,
+        probes,
+        refusals,
+    }
+}

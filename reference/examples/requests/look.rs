@@ -1,0 +1,170 @@
+//! A request's numbers, looked at one by one: which are right and at a limit,
+//! and which are wrong.
+
+use crate::limited::What;
+use crate::request::{casting, Request, BOUNDS, COLUMN, FULL_CAST, VIEW};
+use reference::part::{FILE_MARK, RECORD};
+
+/// A number, which of its kind, and its value.
+pub type Seen = (What, usize, i64);
+
+/// What was seen of a request.
+#[derive(Default)]
+pub struct Look {
+    /// The right ones at a limit, each once.
+    pub right: Vec<Seen>,
+    pub wrong: Vec<Seen>,
+}
+
+impl Look {
+    /// Looks at the file, and at the ray and the room as the call is asked.
+    pub fn at(request: &Request) -> Look {
+        let mut look = Look::default();
+        look.file(&request.file);
+        match (casting(request.call), request.call) {
+            (Some(VIEW), _) => look.floats(request.ray.map(f32::from_bits)),
+            (Some(_), _) => look.ray(request.ray.map(|bits| i64::from(bits as i32))),
+            (None, BOUNDS) => look.place(&request.ray[..3]),
+            (None, _) => {}
+        }
+        let room = request.room as i64;
+        match casting(request.call) {
+            Some(FULL_CAST) => look.see(What::MarksRoom, 0, room),
+            Some(COLUMN) => look.see(What::ColumnRoom, 0, room),
+            _ => {}
+        }
+        look
+    }
+
+    fn see(&mut self, what: What, member: usize, value: i64) {
+        let limited = what.limited();
+        let seen = (what, member, value);
+        if !limited.range.contains(&value) {
+            self.wrong.push(seen);
+        } else if limited.limits.iter().any(|l| l[0] == value) && !self.right.contains(&seen) {
+            self.right.push(seen);
+        }
+    }
+
+    /// The length, the trailer, and the records where they can be found.
+    fn file(&mut self, file: &[u8]) {
+        self.see(What::Length, 0, file.len() as i64);
+        if !self.wrong.is_empty() {
+            return;
+        }
+        let trailer = &file[file.len() - RECORD..];
+        let distance = i64::from(two(trailer, 4)) + 65_536 * i64::from(two(trailer, 6));
+        for (i, right) in FILE_MARK.into_iter().enumerate() {
+            self.see(What::Mark, i, i64::from(trailer[8 + i] ^ right));
+        }
+        self.see(What::Version, 0, i64::from(two(trailer, 2)));
+        self.see(What::Iso, 0, i64::from(two(trailer, 0)));
+        let others = self.wrong.len();
+        self.see(What::Distance, 0, distance);
+        self.see(What::Remainder, 0, distance % RECORD as i64);
+        self.see(What::Beyond, 0, distance - file.len() as i64);
+        if self.wrong.len() == others {
+            let first = file.len() - distance as usize;
+            self.records(&file[first..file.len() - RECORD]);
+        }
+    }
+
+    /// Every record, faulty or not. Of other kinds than 1 to 3, 0 counts as a
+    /// point and the rest as operators.
+    fn records(&mut self, records: &[u8]) {
+        let mut held = 0;
+        for record in records.chunks(RECORD) {
+            self.see(What::Kind, 0, i64::from(record[0]));
+            if record[0] < 2 {
+                self.point(record);
+                held += 1;
+                self.see(What::HeldByPoint, 0, held);
+            } else {
+                (1..RECORD).for_each(|i| self.see(What::OperatorByte, i - 1, i64::from(record[i])));
+                self.see(What::HeldByOperator, 0, held);
+                held = (held - 1).max(0);
+            }
+        }
+        self.see(What::HeldAtEnd, 0, held);
+    }
+
+    fn point(&mut self, record: &[u8]) {
+        let signed = |at| i64::from(two(record, at) as i16);
+        self.see(What::PointByte, 0, i64::from(record[1]));
+        self.see(What::Radius, 0, i64::from(two(record, 2)));
+        (0..3).for_each(|i| self.see(What::Centre, i, signed(4 + 2 * i)));
+        self.see(What::Weight, 0, signed(10));
+    }
+
+    fn place(&mut self, at: &[u32]) {
+        for (i, &bits) in at.iter().enumerate() {
+            self.see(What::PlaceCoordinate, i, i64::from(bits as i32));
+        }
+    }
+
+    fn ray(&mut self, six: [i64; 6]) {
+        for (i, c) in six.into_iter().enumerate() {
+            self.see(What::RayCoordinate, i, c);
+        }
+        self.see(What::Ends, 0, apart(six));
+    }
+
+    /// Where each float is a step, the ends too.
+    fn floats(&mut self, six: [f32; 6]) {
+        let before = self.wrong.len();
+        for (i, float) in six.into_iter().enumerate() {
+            self.see(What::Float, i, float_kind(float));
+            if is_step(float) {
+                self.see(What::FloatSteps, i, (f64::from(float) * 64.0) as i64);
+            }
+        }
+        if self.wrong.len() == before {
+            self.see(
+                What::Ends,
+                0,
+                apart(six.map(|f| (f64::from(f) * 64.0) as i64)),
+            );
+        }
+    }
+}
+
+/// The unsigned number of two bytes.
+fn two(bytes: &[u8], at: usize) -> u16 {
+    u16::from(bytes[at]) + 256 * u16::from(bytes[at + 1])
+}
+
+/// 0 for equal ends, 1 to 6 for ends one step apart: x up, x down, y up and so
+/// on; 7 for others.
+fn apart(six: [i64; 6]) -> i64 {
+    let way = [0, 1, 2].map(|i| six[3 + i] - six[i]);
+    match way {
+        [0, 0, 0] => 0,
+        [1, 0, 0] => 1,
+        [-1, 0, 0] => 2,
+        [0, 1, 0] => 3,
+        [0, -1, 0] => 4,
+        [0, 0, 1] => 5,
+        [0, 0, -1] => 6,
+        _ => 7,
+    }
+}
+
+/// Whether the 64-fold is whole.
+fn is_step(float: f32) -> bool {
+    let steps = f64::from(float) * 64.0;
+    steps.is_finite() && steps.fract() == 0.0
+}
+
+/// 0 for a step, 1 and 2 for the float next above and below one, 3 and 4 for the
+/// infinities, 5 for NaN, 6 for others.
+fn float_kind(float: f32) -> i64 {
+    match float {
+        _ if is_step(float) => 0,
+        _ if float.is_nan() => 5,
+        f32::INFINITY => 3,
+        f32::NEG_INFINITY => 4,
+        _ if is_step(float.next_down()) => 1,
+        _ if is_step(float.next_up()) => 2,
+        _ => 6,
+    }
+}

@@ -1,0 +1,144 @@
+//! One request, the reference's answer to it, and its form in the stream.
+
+use crate::expected::{answered, bounds_number, check_number, viewed};
+use reference::cast;
+use reference::field::Ray;
+use reference::totals::Totals;
+use reference::view::{viewer_first_hit, ViewRay};
+use std::io::{self, Write};
+
+/// The calls; a counted one is a casting call's number and `COUNTED`.
+pub const FULL_CAST: u8 = 0;
+pub const FIRST_HIT: u8 = 1;
+pub const COLUMN: u8 = 2;
+pub const VIEW: u8 = 3;
+pub const COUNTED: u8 = 4;
+pub const CHECK: u8 = 8;
+pub const BOUNDS: u8 = 9;
+/// How many calls there are.
+pub const CALLS: usize = 10;
+
+/// The least number that is no refusal's.
+const ACCEPTED: u64 = 65_536;
+
+/// A request, and its answer once `answered` has filled it in.
+#[derive(Clone, Default)]
+pub struct Request {
+    pub call: u8,
+    pub damaged: bool,
+    pub file: Vec<u8>,
+    /// The bits of A's coordinates and B's, or of a place's and three zeros.
+    pub ray: [u32; 6],
+    pub budget: u32,
+    pub room: usize,
+    pub totals: Totals,
+    pub number: u64,
+    pub after: Totals,
+    pub written: Vec<u8>,
+}
+
+/// The casting call that a call is or counts; none for the other two.
+pub fn casting(call: u8) -> Option<u8> {
+    (call < CHECK).then_some(call % COUNTED)
+}
+
+/// Whether the call is lent the totals.
+pub fn is_counted(call: u8) -> bool {
+    (COUNTED..CHECK).contains(&call)
+}
+
+/// The bytes that a call writes if it is not refused.
+pub fn need(call: u8) -> usize {
+    match (casting(call), call) {
+        (Some(FULL_CAST), _) => cast::TICKS as usize,
+        (Some(COLUMN), _) => cast::COLUMN_BYTES,
+        (_, BOUNDS) => 16,
+        _ => 0,
+    }
+}
+
+/// Both ends' coordinates by their bits.
+pub fn six<T: Copy>(a: [T; 3], b: [T; 3], bits: fn(T) -> u32) -> [u32; 6] {
+    [a[0], a[1], a[2], b[0], b[1], b[2]].map(bits)
+}
+
+impl Request {
+    /// The ray in steps.
+    fn steps(&self) -> Ray {
+        let [ax, ay, az, bx, by, bz] = self.ray.map(|bits| bits as i32);
+        Ray {
+            a: [ax, ay, az],
+            b: [bx, by, bz],
+        }
+    }
+
+    /// The ray in millimetres.
+    fn millimetres(&self) -> ViewRay {
+        let [ax, ay, az, bx, by, bz] = self.ray.map(f32::from_bits);
+        ViewRay {
+            a: [ax, ay, az],
+            b: [bx, by, bz],
+        }
+    }
+
+    /// The probes that the call needs; none if it is refused whatever its room,
+    /// or makes none.
+    pub fn probes(&self) -> Option<u32> {
+        match casting(self.call)? {
+            FIRST_HIT => cast::first_hit(&self.file, &self.steps(), u32::MAX).probes(),
+            VIEW => viewer_first_hit(&self.file, self.millimetres(), u32::MAX).probes(),
+            _ => cast::column(&self.file, &self.steps(), &mut [0; 128]).probes(),
+        }
+    }
+
+    /// Whether the call is not refused.
+    pub fn is_accepted(&self) -> bool {
+        self.number >= ACCEPTED
+    }
+
+    /// The request with the reference's answer.
+    pub fn answered(mut self) -> Request {
+        let mut buffer = vec![0; self.room];
+        let (file, ray) = (&self.file, self.steps());
+        let (number, probes) = match (casting(self.call), self.call) {
+            (Some(VIEW), _) => viewed(file, self.millimetres(), self.budget),
+            (Some(which), _) => answered(file, u32::from(which), &ray, self.budget, &mut buffer),
+            (None, CHECK) => (check_number(file), None),
+            (None, _) => (bounds_number(file, ray.a, &mut buffer), None),
+        };
+        self.number = number;
+        self.after = match is_counted(self.call) {
+            true => self.totals.after(probes),
+            false => self.totals,
+        };
+        if self.is_accepted() {
+            buffer.truncate(need(self.call));
+            self.written = buffer;
+        }
+        self
+    }
+
+    /// Writes the request as the stream's form says.
+    pub fn write(&self, to: &mut impl Write) -> io::Result<()> {
+        to.write_all(&[self.call, u8::from(self.damaged), 0, 0])?;
+        write_numbers(to, &[self.file.len() as u32])?;
+        write_numbers(to, &self.ray)?;
+        write_numbers(to, &[self.budget, self.room as u32])?;
+        write_numbers(to, &three(&self.totals))?;
+        to.write_all(&self.number.to_le_bytes())?;
+        write_numbers(to, &three(&self.after))?;
+        write_numbers(to, &[self.written.len() as u32])?;
+        to.write_all(&self.file)?;
+        to.write_all(&self.written)
+    }
+}
+
+fn write_numbers(to: &mut impl Write, numbers: &[u32]) -> io::Result<()> {
+    numbers
+        .iter()
+        .try_for_each(|number| to.write_all(&number.to_le_bytes()))
+}
+
+fn three(totals: &Totals) -> [u32; 3] {
+    [totals.casts, totals.probes, totals.refusals]
+}
