@@ -1,15 +1,24 @@
-//! Finds the archive of the C entries, for the tests and the benchmark that
-//! link it. Where it is missing they say so; nothing else needs it.
+//! Finds the archives of the C entries and of the test entries, for the tests
+//! and the benchmark that link them. Where one is missing they say so; nothing
+//! else needs it.
 
 use std::path::Path;
 
+/// The archives, each with the condition that it is there.
+const ARCHIVES: [(&str, &str); 2] = [
+    ("libfenalukki.a", "archive"),
+    ("libtesthost.a", "test_archive"),
+];
+
 fn main() {
     let folder = Path::new(env!("CARGO_MANIFEST_DIR")).join("../target/staticlib");
-    let archive = folder.join("libfenalukki.a");
-    println!("cargo::rerun-if-changed={}", archive.display());
-    println!("cargo::rustc-check-cfg=cfg(archive)");
-    if archive.exists() {
-        println!("cargo::rustc-cfg=archive");
-        println!("cargo::rustc-link-search=native={}", folder.display());
+    for (name, condition) in ARCHIVES {
+        let archive = folder.join(name);
+        println!("cargo::rerun-if-changed={}", archive.display());
+        println!("cargo::rustc-check-cfg=cfg({condition})");
+        if archive.exists() {
+            println!("cargo::rustc-cfg={condition}");
+            println!("cargo::rustc-link-search=native={}", folder.display());
+        }
     }
 }

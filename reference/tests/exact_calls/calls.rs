@@ -3,8 +3,8 @@
 //! file, which stays as it was. They answer the reference's answer. A casting
 //! call is made twice, plain and counted.
 
+use crate::entries;
 use crate::guards::in_guards;
-use crate::{entries, exact_entries};
 use reference::cast::{bounds_at, column_by, first_hit_by, full_cast_by};
 use reference::cast::{Column, FirstHit, FullCast};
 use reference::field::{Bounds, ExactField, Ray};
@@ -82,7 +82,7 @@ impl Host {
         let plain = in_guards(room, |b| entries::full_cast(&copy, ray, budget, b));
         let totals = &mut self.lent;
         let counted = in_guards(room, |b| {
-            exact_entries::full_cast_counted(&copy, ray, budget, b, totals)
+            entries::full_cast_counted(&copy, ray, budget, b, totals)
         });
         assert_eq!(plain, expected, "{ray:?} {budget} {file:?}");
         assert_eq!(counted, expected, "{ray:?} {budget} {file:?}");
@@ -97,7 +97,7 @@ impl Host {
         let answer = first_hit_by::<ExactField>(file, ray, budget);
         let copy = file.to_vec();
         let plain = entries::first_hit(&copy, ray, budget);
-        let counted = exact_entries::first_hit_counted(&copy, ray, budget, &mut self.lent);
+        let counted = entries::first_hit_counted(&copy, ray, budget, &mut self.lent);
         let expected = [answer.number(); 2];
         assert_eq!([plain, counted], expected, "{ray:?} {budget} {file:?}");
         assert_eq!(copy, file);
@@ -112,9 +112,7 @@ impl Host {
         let copy = file.to_vec();
         let plain = in_guards(room, |b| entries::column(&copy, ray, b));
         let totals = &mut self.lent;
-        let counted = in_guards(room, |b| {
-            exact_entries::column_counted(&copy, ray, b, totals)
-        });
+        let counted = in_guards(room, |b| entries::column_counted(&copy, ray, b, totals));
         assert_eq!(plain, expected, "{ray:?} {file:?}");
         assert_eq!(counted, expected, "{ray:?} {file:?}");
         assert_eq!(copy, file);
@@ -126,9 +124,9 @@ impl Host {
     pub fn viewer_first_hit(&mut self, file: &[u8], ray: &ViewRay, budget: u32) -> ViewerHit {
         let answer = viewer_first_hit_by::<ExactField>(file, *ray, budget);
         let copy = file.to_vec();
-        let plain = exact_entries::viewer_first_hit(&copy, ray, budget);
+        let plain = entries::viewer_first_hit(&copy, ray, budget);
         let totals = &mut self.lent;
-        let counted = exact_entries::viewer_first_hit_counted(&copy, ray, budget, totals);
+        let counted = entries::viewer_first_hit_counted(&copy, ray, budget, totals);
         let expected = [viewer_number(answer); 2];
         let ends = [ray.a, ray.b].map(|end| end.map(f32::to_bits));
         assert_eq!([plain, counted], expected, "{ends:08x?} {budget} {file:?}");
@@ -146,7 +144,7 @@ pub fn check(file: &[u8]) -> Result<(u32, u32), u32> {
         Err(number) => u64::from(number),
     };
     let copy = file.to_vec();
-    assert_eq!(exact_entries::check(&copy), expected, "{file:?}");
+    assert_eq!(entries::check(&copy), expected, "{file:?}");
     assert_eq!(copy, file);
     answer
 }
@@ -160,7 +158,7 @@ pub fn place_bounds(file: &[u8], at: [i32; 3]) -> Result<Bounds, u32> {
     };
     let copy = file.to_vec();
     let mut bounds = BEFORE;
-    let number = exact_entries::place_bounds(&copy, at, &mut bounds);
+    let number = entries::place_bounds(&copy, at, &mut bounds);
     assert_eq!((number, bounds), expected, "{at:?} {file:?}");
     assert_eq!(copy, file);
     answer

@@ -4,8 +4,6 @@
 
 #[path = "../common/entries.rs"]
 mod entries;
-#[path = "../common/exact_entries.rs"]
-mod exact_entries;
 #[path = "../common/floats.rs"]
 mod floats;
 #[path = "../common/guards.rs"]
