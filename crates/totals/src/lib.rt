@@ -99,17 +99,18 @@ pub fn view(file: &[u8], call: ViewCall) -> ViewAnswer
     viewer_first_hit(file, call.ray, call.budget)
 }
 
-// ---- the calls, handed the totals by value
+// ---- the calls, handed the totals by value: each lends a record of its own to the call that is lent the totals
 
 // Full cast, first hit or column, and the totals after it.
 pub fn perform_by_value(file: &[u8], call: Call, buffer: &mut [u8], totals: Totals) -> CountedAnswer
     ensures performed { λ r. ⌜ Performed (now (file .entry)) call (now (buffer .entry)) (r .answer) (now (buffer .exit)) ⌝ }
     ensures counted { λ r. ⌜ r .totals ≡ totalsAfter (now (file .entry)) call (length (now (buffer .entry))) totals ⌝ }
 {
-    let answer = perform(file, call, buffer);
+    let mut record = totals;
+    let answer = perform_counted(file, call, buffer, &mut record);
     CountedAnswer {
         answer: answer,
-        totals: count_answer(totals, answer),
+        totals: record,
     }
 }
 
@@ -118,10 +119,11 @@ pub fn view_by_value(file: &[u8], call: ViewCall, totals: Totals) -> CountedView
     ensures viewed { λ r. ⌜ Viewed (now (file .entry)) call (r .answer) ⌝ }
     ensures counted { λ r. ⌜ r .totals ≡ totalsAfterView (now (file .entry)) call totals ⌝ }
 {
-    let answer = view(file, call);
+    let mut record = totals;
+    let answer = view_counted(file, call, &mut record);
     CountedViewAnswer {
         answer: answer,
-        totals: count_view(totals, answer),
+        totals: record,
     }
 }
 
