@@ -85,7 +85,7 @@
  *   Every call comes back, whatever it is handed. It keeps no pointer and no
  *   state, uses no heap and no global data, and writes nothing but its buffer,
  *   bounds or totals. Calls may run at the same time on several threads, on one
- *   file too, as long as what they write differs. A call needs about 25 KiB of
+ *   file too, as long as what they write differs. A call needs about 26 KiB of
  *   stack, measured on the compiled archive; 64 KiB are tested to be enough.
  *
  * The number that a call returns
