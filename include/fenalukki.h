@@ -121,10 +121,9 @@
  *   The time of a cast goes by its probes times the part's records. The most
  *   are 2,047 probes of 511 records. A full cast of that size, of 256 points and
  *   255 sums that leave every tick undecided, takes 55 million instructions by
- *   callgrind, which is 53 for a probe and record, and took 5.3 ms where that
- *   was measured; no cast tried took more. A column takes the same. A smaller
- *   budget makes fewer probes and so bounds a call's time. docs/BENCHMARKS.md
- *   has the figures of other parts.
+ *   callgrind, which is 53 for a probe and record; no cast tried took more. A
+ *   column takes the same. A smaller budget makes fewer probes and so bounds a
+ *   call's time. docs/BENCHMARKS.md has the figures of other parts.
  *
  * Platform
  *
