@@ -1,6 +1,7 @@
 use native.Mathlib.Omega.{arith}
 use borrow.Author.Needs.{needs}
 use Rattle.cast.specs.Ticks.{exponent}
+use Rattle.numbers.specs.Numbers.{viewRayOf}
 use Rattle.numbers.proofs.Numbers.{view-number-fits}
 use Rattle.fenalukki.proofs.Host.{host-view, view-counted}
 use Rattle.fenalukki.proofs.fenalukki_viewer_first_hit_counted.Statement.{statement}
@@ -20,7 +21,9 @@ fenalukki-viewer-first-hit-counted-spec =
     (λ c.
     let t = c .before .before .before in
     let v = t .before .viewer-ticks .ensures in
+    let a = t .before .before .before .before .args in
+    let ray = viewRayOf (a .ax) (a .ay) (a .az) (a .bx) (a .by) (a .bz) in
     let same = t .before .before .view-ray-of .ensures in (
-      host-view _ same _ _ (v .0) (v .1) (c .hit-number .ensures),
-      view-counted _ same _ _ (v .0) _ (c .before .count-lent .ensures) (t .hit-tally .ensures),
+      host-view _ {hosts = ray} same _ _ (v .0) (v .1) (c .hit-number .ensures),
+      view-counted _ {hosts = ray} same _ _ (v .0) _ (c .before .count-lent .ensures) (t .hit-tally .ensures),
     )))
