@@ -5,7 +5,7 @@
 --     constant-empty, untouched, left-half-honest, later-hit   demand 2's marks: `alone`
 --     spent-at-once, spent-early, invented-probes              the count rule: `counted`
 --     hit-probes                                               a first hit's order: `order`
---     as-hit, inexact-entry                                    a viewer's first hit: these four, and `exact`
+--     as-hit, as-clear, as-spent; inexact-entry                a viewer's first hit: these four; `exact`
 --     constant-refusal, asked-13-first                         the equation of a full cast's answer
 --     two-nodes, not-enclosing, loose                          the check of a file (`Says`) and the bounds at a place (`PlaceSays`)
 use mathlib.Core.Path.{_≡_, refl, sym, ap, _∙_, subst}
@@ -58,6 +58,7 @@ use Rattle.cast.specs.Demands.{Sound, Alone, AloneBits, Empty, AloneHit, Counte
 use Rattle.cast.specs.Demands.{CastDemands, HitDemands, ColumnDemands}
 use Rattle.cast.proofs.Demands.{ray-walked}
 use Rattle.view.specs.declared.ViewRay.{ViewRay}
+use Rattle.view.specs.declared.ViewAnswer.{ViewAnswer}
 use Rattle.view.specs.declared.ViewAnswer.the-variants as view
 use Rattle.view.specs.Floats.{tickAt}
 use Rattle.view.specs.Steps.{stepsOf, wholeSteps}
@@ -228,12 +229,26 @@ steps-are : stepsRay seen ≡ ray
 unfolding ofBits round coordinate stepsOf wholeSteps coordinateOf positionOf stepsRay
 steps-are = refl
 
-module _ {budget mark probes : ℕ} {entry : Float} (d : ViewDemands fileK seen exponent budget (view.Hit entry mark probes)) where
-  -- it promises what a first hit of its tick does, so that the theorems above hold of it
-  pub as-hit : HitDemands K ray exponent budget (found.Hit (tickAt 1024 entry) mark probes)
+-- unless it is refused it promises what a first hit of its ticks does, so that the theorems above hold of it
+module _ {budget : ℕ} (a : ViewAnswer) (d : ViewDemands fileK seen exponent budget a) where
+  by-steps : CountedHit K (stepsRay seen) exponent budget (inTicks 1024 a) → HitDemands K ray exponent budget (inTicks 1024 a)
+  by-steps counted = subst (λ (r : Ray). HitDemands K r exponent budget (inTicks 1024 a)) steps-are
+      (record { alone = d .alone; counted = counted; order = d .order; sound = d .sound })
+
+module _ {budget probes : ℕ} where
+  pub as-hit : {mark : ℕ} {entry : Float} → ViewDemands fileK seen exponent budget (view.Hit entry mark probes)
+      → HitDemands K ray exponent budget (found.Hit (tickAt 1024 entry) mark probes)
   unfolding inTicks CountedView
-  as-hit = subst (λ (r : Ray). HitDemands K r exponent budget (found.Hit (tickAt 1024 entry) mark probes)) steps-are
-      (record { alone = d .alone; counted = d .counted; order = d .order; sound = d .sound })
+  as-hit d = by-steps _ d (d .counted)
+
+  pub as-clear : ViewDemands fileK seen exponent budget (view.Clear probes) → HitDemands K ray exponent budget (found.Clear probes)
+  unfolding inTicks CountedView
+  as-clear d = by-steps _ d (d .counted)
+
+  pub as-spent : {place : Float} → ViewDemands fileK seen exponent budget (view.Spent place probes)
+      → HitDemands K ray exponent budget (found.Spent (tickAt 1024 place) probes)
+  unfolding inTicks CountedView
+  as-spent d = by-steps _ d (d .counted)
 
 module _ {budget mark probes : ℕ} where
   -- 331/1024

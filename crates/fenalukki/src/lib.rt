@@ -5,13 +5,13 @@ use bounds::place_bounds;
 use cast::column;
 use cast::first_hit;
 use cast::full_cast;
-use field::Position;
 use numbers::bounds_number;
 use numbers::cast_number;
 use numbers::check_number;
 use numbers::column_number;
 use numbers::count_lent;
 use numbers::hit_number;
+use numbers::place_at;
 use numbers::ray_of;
 use numbers::view_ray_of;
 use part::check;
@@ -24,7 +24,7 @@ ghost use lib.ListN.{length};
 ghost use Rattle.cast.specs.Calls.{fullCast, firstHit, columnAnswer};
 ghost use Rattle.view.specs.Call.{viewerFirstHit};
 ghost use Rattle.tally.specs.Counts.{castTally, hitTally, columnTally, viewTally};
-ghost use Rattle.numbers.specs.Numbers.{placeOf, rayOf, viewRayOf, lentAfter};
+ghost use Rattle.numbers.specs.Numbers.{placeAt, rayOf, viewRayOf, lentAfter};
 ghost use Rattle.fenalukki.specs.Host.{HostCast, HostHit, HostColumn, HostCheck, HostBounds, HostView};
 
 // Full cast: 1,024 mark bytes, as far as the budget goes.
@@ -98,9 +98,9 @@ pub extern "C" fn fenalukki_place_bounds(
     z: i32,
     bounds: &mut [i64; 2],
 ) -> u32
-    ensures { λ r. ⌜ HostBounds (now (file .entry)) (placeOf x y z) (now (bounds .entry)) r (now (bounds .exit)) ⌝ }
+    ensures { λ r. ⌜ HostBounds (now (file .entry)) (placeAt x y z) (now (bounds .entry)) r (now (bounds .exit)) ⌝ }
 {
-    bounds_number(place_bounds(file, Position { x: x, y: y, z: z }), bounds)
+    bounds_number(place_bounds(file, place_at(x, y, z)), bounds)
 }
 
 // Viewer's first hit, in ticks.
@@ -202,7 +202,7 @@ pub extern "C" fn fenalukki_viewer_first_hit_counted(
     ensures counted { λ _. ⌜ now (totals .exit) ≡ lentAfter
         (viewTally (viewerFirstHit (now (file .entry)) (viewRayOf ax ay az bx by bz) budget)) (now (totals .entry)) ⌝ }
 {
-    let answer = viewer_ticks(file, view_ray_of(ax, ay, az, bx, by, bz), budget);
-    count_lent(hit_tally(answer), totals);
-    hit_number(answer)
+    let seen = viewer_ticks(file, view_ray_of(ax, ay, az, bx, by, bz), budget);
+    count_lent(hit_tally(seen), totals);
+    hit_number(seen)
 }

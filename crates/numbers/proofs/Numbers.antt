@@ -37,11 +37,11 @@ use Rattle.view.specs.declared.ViewRay.{ViewRay}
 use Rattle.view.specs.Ray.{stepsRay}
 use Rattle.view.specs.Call.{viewOf, viewerTicks}
 use Rattle.view.specs.Demands.{inTicks, CountedView, ViewDemands}
-use Rattle.numbers.specs.Numbers.{placeOf, rayOf, Told, checkNumber, boundsNumber}
+use Rattle.numbers.specs.Numbers.{placeAt, rayOf, Told, checkNumber, boundsNumber}
 
 -- the place of the host's three numbers, as they are read
-pub hosts-place : (x y z : ℤ) {p : Position} → SFits w32 x → SFits w32 y → SFits w32 z → p ≡ placeOf (back w32 x) (back w32 y) (back w32 z)
-    → p ≡ placeOf x y z
+pub hosts-place : (x y z : ℤ) {p : Position} → SFits w32 x → SFits w32 y → SFits w32 z → p ≡ placeAt (back w32 x) (back w32 y) (back w32 z)
+    → p ≡ placeAt x y z
 hosts-place x y z f g h e = e ∙ simp (toZ-ofZ f, toZ-ofZ g, toZ-ofZ h)
 
 -- the ray of the host's six numbers, as they are read

@@ -12,6 +12,7 @@ use Rattle.field.specs.declared.Position.{Position}
 use Rattle.field.specs.declared.Ray.{Ray}
 use Rattle.bounds.specs.declared.BoundsAnswer.{BoundsAnswer}
 use Rattle.bounds.specs.declared.BoundsAnswer.the-variants as place
+use Rattle.view.specs.declared.ViewEnd.{ViewEnd}
 use Rattle.view.specs.declared.ViewRay.{ViewRay}
 use Rattle.tally.specs.declared.Totals.{Totals}
 use Rattle.tally.specs.declared.Tally.{Tally}
@@ -20,16 +21,19 @@ use Rattle.tally.specs.Counts.{afterTally}
 -- ---- handed over
 
 -- a place
-abbrev pub placeOf : ℤ → ℤ → ℤ → Position
-placeOf x y z = record { x = x; y = y; z = z }
+abbrev pub placeAt : ℤ → ℤ → ℤ → Position
+placeAt x y z = record { x = x; y = y; z = z }
 
 -- A and B, three coordinates each
 abbrev pub rayOf : ℤ → ℤ → ℤ → ℤ → ℤ → ℤ → Ray
-rayOf ax ay az bx by bz = record { start = placeOf ax ay az; end = placeOf bx by bz }
+rayOf ax ay az bx by bz = record { start = placeAt ax ay az; end = placeAt bx by bz }
 
--- A and B in millimetres, three floats each
+-- the same in millimetres
+abbrev pub endOf : Float → Float → Float → ViewEnd
+endOf x y z = record { x = x; y = y; z = z }
+
 abbrev pub viewRayOf : Float → Float → Float → Float → Float → Float → ViewRay
-viewRayOf ax ay az bx by bz = record { start = record { x = ax; y = ay; z = az }; end = record { x = bx; y = by; z = bz } }
+viewRayOf ax ay az bx by bz = record { start = endOf ax ay az; end = endOf bx by bz }
 
 -- ---- given back
 

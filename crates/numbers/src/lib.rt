@@ -17,48 +17,49 @@ ghost use mathlib.Core.Path.{_≡_};
 ghost use Prim.Native.Nat.{_^_, _<_};
 ghost use Rattle.halving.specs.Numbers.{castNumber, hitNumber};
 ghost use Rattle.cast.specs.Column.{columnNumber};
-ghost use Rattle.numbers.specs.Numbers.{rayOf, viewRayOf, checkNumber, boundsNumber, boundsLeft, totalsIn, totalsOut, lentAfter};
+ghost use Rattle.numbers.specs.Numbers.{placeAt, rayOf, endOf, viewRayOf, checkNumber, boundsNumber, boundsLeft, totalsIn, totalsOut, lentAfter};
 
 // What k counts in a number, and what a tick or the node count does: 2³² and 65,536.
 pub const CASE: u64 = 4294967296;
 
 pub const TICK: u64 = 65536;
 
+// ---- handed over
+
+pub fn place_at(x: i32, y: i32, z: i32) -> Position
+    ensures { λ r. ⌜ r ≡ placeAt x y z ⌝ }
+{
+    Position { x: x, y: y, z: z }
+}
+
 // The ray from A to B.
 pub fn ray_of(ax: i32, ay: i32, az: i32, bx: i32, by: i32, bz: i32) -> Ray
     ensures { λ r. ⌜ r ≡ rayOf ax ay az bx by bz ⌝ }
 {
     Ray {
-        start: Position {
-            x: ax,
-            y: ay,
-            z: az,
-        },
-        end: Position {
-            x: bx,
-            y: by,
-            z: bz,
-        },
+        start: place_at(ax, ay, az),
+        end: place_at(bx, by, bz),
     }
 }
 
-// The same in millimetres.
+// An end in millimetres.
+fn end_of(x: f32, y: f32, z: f32) -> ViewEnd
+    ensures { λ r. ⌜ r ≡ endOf x y z ⌝ }
+{
+    ViewEnd { x: x, y: y, z: z }
+}
+
+// The ray from A to B in millimetres.
 pub fn view_ray_of(ax: f32, ay: f32, az: f32, bx: f32, by: f32, bz: f32) -> ViewRay
     ensures { λ r. ⌜ r ≡ viewRayOf ax ay az bx by bz ⌝ }
 {
     ViewRay {
-        start: ViewEnd {
-            x: ax,
-            y: ay,
-            z: az,
-        },
-        end: ViewEnd {
-            x: bx,
-            y: by,
-            z: bz,
-        },
+        start: end_of(ax, ay, az),
+        end: end_of(bx, by, bz),
     }
 }
+
+// ---- given back
 
 pub fn cast_number(answer: CastAnswer) -> u32
     requires { ⌜ castNumber answer < 2 ^ 32 ⌝ }

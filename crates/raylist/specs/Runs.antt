@@ -12,5 +12,5 @@ pub record Run (marks : List ℕ) (first after : ℕ) : Type 0 where
   pub within : after ≤ length marks
   -- of one mark
   pub same : (t : ℕ) → first ≤ t → t < after → getD marks t 0 ≡ getD marks first 0
-  -- and no longer one: the marks end there, or the next one differs
+  -- and it goes no further: the marks end there, or the next one differs
   pub maximal : (after ≡ length marks) ⊎ (getD marks after 0 ≡ getD marks first 0 → ⊥)

@@ -1,4 +1,3 @@
-use mathlib.Core.Path.{refl}
 use borrow.Author.Needs.{needs}
 use Rattle.numbers.proofs.Numbers.{hosts-place}
 use Rattle.fenalukki.proofs.Host.{host-bounds}
@@ -11,7 +10,10 @@ fenalukki-place-bounds-spec =
     (tie.spec
     (λ c κs. search needs)
     (λ c κs. search needs)
+    (λ c κs. search needs)
     (λ c.
     let b = c .before .before in
-    let f = b .before .before .fits in
-    host-bounds _ (hosts-place _ _ _ (f .x) (f .y) (f .z) refl) _ _ (b .place-bounds .ensures) (c .bounds-number .ensures)))
+    let p = b .before in
+    let f = p .before .before .fits in
+    let same = hosts-place _ _ _ (f .x) (f .y) (f .z) (p .place-at .ensures) in
+    host-bounds _ same _ _ (b .place-bounds .ensures) (c .bounds-number .ensures)))
