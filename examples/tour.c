@@ -114,6 +114,16 @@ static void show_part(const struct part *part)
            get16(trailer + 4));
 }
 
+/* Of any call: says why it was refused and returns 1, else 0. What was lent to a
+ * refused call is as it was, so it is not read. */
+static int is_refused(uint64_t number)
+{
+    if (!fenalukki_refusal(number))
+        return 0;
+    printf("refused %d, %s\n", fenalukki_refusal(number), fenalukki_refusal_text(number));
+    return 1;
+}
+
 /* 2. The check of a file, without and with bytes before the first record. */
 
 /* Returns 1 if the file passes. */
@@ -121,11 +131,10 @@ static int print_check(const char *name, const uint8_t *file, size_t length)
 {
     uint64_t number = fenalukki_check(file, length);
 
-    if (fenalukki_refusal(number)) {
-        printf("%s: refused, %s\n", name, fenalukki_refusal_text(number));
+    printf("%s: ", name);
+    if (is_refused(number))
         return 0;
-    }
-    printf("%s: %d nodes, iso %d\n", name, fenalukki_nodes(number), fenalukki_iso(number));
+    printf("%d nodes, iso %d\n", fenalukki_nodes(number), fenalukki_iso(number));
     return 1;
 }
 
@@ -176,17 +185,20 @@ static void show_plane(const struct part *part)
     unsigned long probes = 0;
     int i;
 
+    printf("\n3. The plane z 0: ");
     for (i = 0; i < COLUMNS; i++) {
         uint8_t bits[FENALUKKI_COLUMN_BYTES];
         int32_t x = 32 * i - 1008;
         uint32_t number = fenalukki_column(part->bytes, part->length, x, 1024, 0, x, -1024, 0,
                                            bits, sizeof bits);
 
+        if (is_refused(number))
+            return;
         probes += fenalukki_probes(number);
         draw_column(bits, picture, i);
     }
-    printf("\n3. The plane z 0: %d columns, %lu probes; of %d ticks all (#), some (+) or none (.)"
-           " are solid\n", COLUMNS, probes, TICKS_A_SIGN);
+    printf("%d columns, %lu probes; of %d ticks all (#), some (+) or none (.) are solid\n",
+           COLUMNS, probes, TICKS_A_SIGN);
     print_picture(picture);
 }
 
@@ -217,8 +229,10 @@ static void print_cast(const struct part *part, uint32_t budget)
                                           budget, marks, sizeof marks);
     int tick = 0;
 
-    printf("budget %lu: %lu probes, ", (unsigned long)budget,
-           (unsigned long)fenalukki_probes(number));
+    printf("budget %lu: ", (unsigned long)budget);
+    if (is_refused(number))
+        return;
+    printf("%lu probes, ", (unsigned long)fenalukki_probes(number));
     if (fenalukki_is_spent(number))
         printf("spent at tick %d\n", fenalukki_tick_reached(marks));
     else
@@ -239,10 +253,8 @@ static void show_casts(const struct part *part)
 
 static void print_hit(uint64_t number)
 {
-    if (fenalukki_refusal(number)) {
-        printf("refused %d, %s\n", fenalukki_refusal(number), fenalukki_refusal_text(number));
+    if (is_refused(number))
         return;
-    }
     switch (fenalukki_k(number)) {
     case FENALUKKI_K_CLEAR:
         printf("clear");
@@ -277,12 +289,29 @@ static void show_hits(const struct part *part)
 /* 6. The viewer's first hits, by floats in millimetres: the first ray of 5, then
  * a camera's ray as it is, then rounded to steps. */
 
+/* Of a hit: the point where its tick begins, in millimetres. It is exact, for it
+ * is a multiple of 1/65536 mm, which a float holds. */
+static void print_point(const float a[3], const float b[3], uint64_t number)
+{
+    float entry = fenalukki_place(number), point[3];
+    int i;
+
+    for (i = 0; i < 3; i++)
+        point[i] = a[i] + entry * (b[i] - a[i]);
+    printf("  entry at (%.18g, %.18g, %.18g)\n", (double)point[0], (double)point[1],
+           (double)point[2]);
+}
+
 static void print_view(const struct part *part, const float a[3], const float b[3])
 {
+    uint64_t number = fenalukki_viewer_first_hit(part->bytes, part->length, a[0], a[1], a[2],
+                                                 b[0], b[1], b[2], FENALUKKI_ENOUGH);
+
     printf("(%.9g, %.9g, %.9g) to (%.9g, %.9g, %.9g): ", (double)a[0], (double)a[1],
            (double)a[2], (double)b[0], (double)b[1], (double)b[2]);
-    print_hit(fenalukki_viewer_first_hit(part->bytes, part->length, a[0], a[1], a[2],
-                                         b[0], b[1], b[2], FENALUKKI_ENOUGH));
+    print_hit(number);
+    if (fenalukki_k(number) == FENALUKKI_K_CROSSING || fenalukki_k(number) == FENALUKKI_K_INSIDE)
+        print_point(a, b, number);
 }
 
 static void round_end(const double camera[3], float end[3])
@@ -315,13 +344,15 @@ static void print_bounds(const struct part *part, int32_t x, int32_t y, int32_t 
 {
     int64_t bounds[FENALUKKI_BOUNDS], level = ISO * FENALUKKI_BOUNDS_ONE;
     int64_t low, high;
+    uint32_t number = fenalukki_place_bounds(part->bytes, part->length, x, y, z, bounds);
 
-    fenalukki_place_bounds(part->bytes, part->length, x, y, z, bounds);
+    printf("(%ld, %ld, %ld): ", (long)x, (long)y, (long)z);
+    if (is_refused(number))
+        return;
     low = bounds[FENALUKKI_BOUNDS_LOW];
     high = bounds[FENALUKKI_BOUNDS_HIGH];
-    printf("(%ld, %ld, %ld): %.0f to %.0f, field %.3f to %.3f, %s\n", (long)x, (long)y, (long)z,
-           (double)low, (double)high, (double)low / (double)FENALUKKI_BOUNDS_ONE,
-           (double)high / (double)FENALUKKI_BOUNDS_ONE,
+    printf("%.0f to %.0f, field %.3f to %.3f, %s\n", (double)low, (double)high,
+           (double)low / (double)FENALUKKI_BOUNDS_ONE, (double)high / (double)FENALUKKI_BOUNDS_ONE,
            low >= level ? "solid" : high < level ? "empty" : "open");
 }
 

@@ -15,7 +15,7 @@
  * crossing, neither is known, and at every place the field differs from the
  * iso-value by at most the sum, over the part's points, of the size of the
  * weight times (S/(256 r) + 1/16384), where S adds the sizes of the ray's three
- * coordinate differences and r is the point's radius in steps.
+ * coordinate differences and r is the point's radius, both in steps.
  *
  * The ten entries
  *
@@ -77,7 +77,11 @@
  *   0, and such a pointer may be null. bounds and totals have no length: they
  *   are never null, and valid for two and three numbers. The file, the buffer,
  *   bounds and totals do not overlap. Nobody else writes the file, or reads or
- *   writes what is written, during a call.
+ *   writes what is written, during a call. The contents of totals are set
+ *   beforehand; those of a buffer and of bounds need not be.
+ *   In the viewer's calls the floating-point environment is the default one:
+ *   exceptions masked, rounding to nearest, denormals not flushed to zero
+ *   (gcc's -ffast-math, given when linking, flushes them).
  *   Nothing else has to be checked beforehand: every other fault is refused.
  *
  * What the caller can count on
@@ -242,6 +246,10 @@ uint64_t fenalukki_check(const uint8_t *file, size_t file_len);
  * Unless refused, low <= field * 2^32 <= high. Where low is at least
  * iso * 2^32 the place is solid, where high is below it the place is empty, and
  * otherwise the bounds leave it open.
+ *
+ * Of each point 1 - d*d / (r*r) is rounded to a multiple of 1/65536, down and
+ * up, so high - low is at most 131,071 times the sum of the sizes of the
+ * part's weights.
  */
 uint32_t fenalukki_place_bounds(const uint8_t *file, size_t file_len,
                                 int32_t x, int32_t y, int32_t z,
@@ -306,6 +314,10 @@ uint32_t fenalukki_column(const uint8_t *file, size_t file_len,
  * A camera's coordinates are as a rule no multiples of 1/64 mm, and such a ray
  * is refused with 15: the call rounds nothing. fenalukki_round_to_step, below,
  * rounds a coordinate to the nearest step before the call. Minus zero is 0.
+ *
+ * A coordinate beyond 2047/64 = 31.984375 mm either way is refused with 15 as
+ * well: a camera farther out clips its ray to that cube first, and the entry
+ * lies between the ends that are handed over.
  *
  * Returns 1 to 11, 13 or 15, the refusal number, or k * 2^32 + tick * 65,536 +
  * probes, as fenalukki_first_hit does for the ray in steps:

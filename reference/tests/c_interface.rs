@@ -6,7 +6,8 @@ mod prototypes;
 
 use prototypes::{c_entries, rattle_entries, Entry};
 use reference::cast::{self, Column, FirstHit, FullCast, Mark};
-use reference::generate::SplitMix64;
+use reference::field::{place_bounds, whole_place};
+use reference::generate::{self, Shape, SplitMix64};
 use reference::part::{self, FileBuilder};
 use std::collections::{BTreeMap, BTreeSet};
 use std::fs;
@@ -325,6 +326,34 @@ fn readers_in_c99_and_cpp_take_numbers_apart() {
     }
 }
 
+/// The width that the header gives to the bounds at a place; file K at (1, 0, 0) has the whole of it.
+#[test]
+fn the_width_of_the_bounds_at_a_place() {
+    let shape = Shape {
+        points: (1, 9),
+        reach: 600,
+        radius: (50, 1024),
+        weight: (-4096, 4096),
+        iso: (1, 4096),
+    };
+    let mut random = SplitMix64::new(131_071);
+    for _ in 0..2000 {
+        let nodes = generate::part(&mut random, &shape).nodes;
+        let at = [0; 3].map(|_: i32| random.between(-600, 600) as i32);
+        let bounds = place_bounds(&nodes, &whole_place(at)).expect("one value");
+        let weights: i64 = nodes.iter().map(|node| i64::from(node.w).abs()).sum();
+        assert!(
+            bounds.high - bounds.low <= 131_071 * weights,
+            "{at:?} {nodes:?}"
+        );
+    }
+    let k = FileBuilder::new(1).point(512, [0; 3], 4).build();
+    let bounds = cast::bounds_at(&k, [1, 0, 0]).expect("bounds");
+    assert_eq!(bounds.high - bounds.low, 131_071 * 4);
+    let said = "high - low is at most 131,071 times";
+    assert!(read("include/fenalukki.h").contains(said));
+}
+
 /// Each refusal number has a text of its own.
 #[test]
 fn refusal_texts() {
@@ -426,6 +455,34 @@ fn the_tour() {
             "{name}"
         );
         assert!(read("README.md").contains(&format!("`{name}`")), "{name}");
+    }
+}
+
+/// A tour of a part that is refused reads nothing that was lent.
+#[test]
+fn a_tour_of_a_refused_part() {
+    let spoiled = temporary("spoiled_tour.c");
+    let mut tour = read("examples/tour.c");
+    for (from, to) in [
+        ("put_trailer(part, ISO)", "put_trailer(part, 0)"),
+        (
+            "if (!show_check(&part))\n        return 1;",
+            "show_check(&part);",
+        ),
+    ] {
+        assert!(tour.contains(from), "{from}");
+        tour = tour.replacen(from, to, 1);
+    }
+    fs::write(&spoiled, tour).expect("written");
+    let program = c99("spoiled_tour", &[spoiled.to_str().expect("a path")]);
+    let output = printed(&program, "");
+    let sections: Vec<&str> = output.split("\n\n").collect();
+    assert_eq!(sections.len(), 10);
+    for (section, refused) in sections[2..8].iter().zip([1, 1, 3, 4, 3, 4]) {
+        let lines = section.lines().rev().take(refused);
+        let said = lines.filter(|line| line.contains(": refused 5, ")).count();
+        assert_eq!(said, refused, "{section}");
+        assert!(section.lines().count() <= refused + 1, "{section}");
     }
 }
 
@@ -622,5 +679,23 @@ fn install_asks_for_one_prefix() {
         let output = install(prefix);
         assert_eq!(output.status.code(), Some(2));
         assert_eq!(output.stderr, b"usage: ./install PREFIX\n");
+    }
+}
+
+/// With a blank in the prefix, as it is given or by the folder it is in, nothing is placed.
+#[test]
+fn install_refuses_a_blank_in_the_prefix() {
+    let folder = temporary("a blank");
+    let _ = fs::remove_dir_all(&folder);
+    fs::create_dir(&folder).expect("a folder");
+    for prefix in [folder.join("prefix"), "prefix".into(), "a\ttab".into()] {
+        let mut script = Command::new(root().join("install"));
+        let output = script.arg(&prefix).current_dir(&folder).output();
+        let output = output.expect("the script");
+        let full = folder.join(&prefix);
+        let said = format!("install: a blank in the prefix: {}\n", full.display());
+        assert_eq!(output.status.code(), Some(2));
+        assert_eq!(String::from_utf8_lossy(&output.stderr), said);
+        assert!(!full.exists(), "{}", full.display());
     }
 }
