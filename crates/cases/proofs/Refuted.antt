@@ -1,6 +1,7 @@
 -- Wrong answers that the contracts refute (document 01, "Contracts and evidence": "These empty programs are to be caught"), on file K and the ray
 -- that document 01 prints the list of. Each theorem takes what a contract promises, `CastDemands` and its like, and a wrong answer or byte, and
--- cites the field of the promise that the two contradict; without that field it is not proved.
+-- cites the field of the promise that the two contradict; without that field it is not proved. `constant-refusal` and `asked-13-first` are of the
+-- answer that the contract's equation names.
 --     constant-crossing, hit-at-start, solid-column            demand 3's distance: `sound`
 --     constant-empty, untouched, left-half-honest, later-hit   demand 2's marks: `alone`
 --     spent-at-once, spent-early, invented-probes              the count rule: `counted`

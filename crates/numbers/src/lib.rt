@@ -17,7 +17,8 @@ ghost use mathlib.Core.Path.{_≡_};
 ghost use Prim.Native.Nat.{_^_, _<_};
 ghost use Rattle.halving.specs.Numbers.{castNumber, hitNumber};
 ghost use Rattle.cast.specs.Column.{columnNumber};
-ghost use Rattle.numbers.specs.Numbers.{placeAt, rayOf, endOf, viewRayOf, checkNumber, boundsNumber, boundsLeft, totalsIn, totalsOut, lentAfter};
+ghost use Rattle.numbers.specs.Numbers.{placeAt, rayOf, endOf, viewRayOf, checkNumber, boundsNumber, boundsLeft};
+ghost use Rattle.numbers.specs.Numbers.{totalsIn, totalsOut, lentAfter};
 
 // What k counts in a number, and what a tick or the node count does: 2³² and 65,536.
 pub const CASE: u64 = 4294967296;
