@@ -84,13 +84,18 @@ rows =
     ∷ (bounds (part (large ++ large ++ small ++ operator 5 ++ operator 5)) (at (pos 1) (pos 0)), lowHigh (pos 3393528516) (pos 3393645025))
     ∷ (bounds (part (large ++ small ++ operator 5 ++ small ++ operator 2)) (at (pos 1) (pos 0)), lowHigh (pos 8589818083) (pos 8590051101))
     -- iso and weights 4,096: two points summed, cut by one; 35,184,372,088,832 less 1,024 times K's bounds
-    ∷ (bounds (file 0 0x10 (heavy ++ heavy ++ operator 2 ++ heavy ++ operator 5)) (at (pos 1) (pos 0)),
-      lowHigh (pos 17592186044416) (pos 17592722911232))
+    ∷ (
+      bounds (file 0 0x10 (heavy ++ heavy ++ operator 2 ++ heavy ++ operator 5)) (at (pos 1) (pos 0)),
+      lowHigh (pos 17592186044416) (pos 17592722911232),
+    )
     -- a hollow ball: the ray enters as into K, and the cavity shows
     ∷ (hits hollow (across (pos 0)) 2047, found (first.Hit 330 1 15))
-    ∷ (full hollow (across (pos 0)) 2047 (replicate 1024 3), marks (cast.Complete 67)
-      (replicate 330 0 ++ replicate 1 1 ++ replicate 90 2 ++ replicate 1 1 ++ replicate 180 0
-      ++ replicate 1 1 ++ replicate 90 2 ++ replicate 1 1 ++ replicate 330 0))
+    ∷ (
+      full hollow (across (pos 0)) 2047 (replicate 1024 3),
+      marks (cast.Complete 67)
+          (replicate 330 0 ++ replicate 1 1 ++ replicate 90 2 ++ replicate 1 1 ++ replicate 180 0
+          ++ replicate 1 1 ++ replicate 90 2 ++ replicate 1 1 ++ replicate 330 0),
+    )
     -- what two balls share
     ∷ (hits lens (across (pos 0)) 2047, found (first.Hit 630 1 17))
     ∷ []
