@@ -39,11 +39,11 @@ operator kind = kind ∷ 0 ∷ 0 ∷ 0 ∷ 0 ∷ 0 ∷ 0 ∷ 0 ∷ 0 ∷ 0 ∷ 0
 
 -- the records, with a trailer: the two bytes of the iso-value
 abbrev file : ℕ → ℕ → List ℕ → List ℕ
-file i i′ records = records ++ i ∷ i′ ∷ 1 ∷ 0 ∷ length records + 12 ∷ 0 ∷ 0 ∷ 0 ∷ 0x54 ∷ 0x52 ∷ 0x45 ∷ 0x45 ∷ []
+file i i′ rs = rs ++ i ∷ i′ ∷ 1 ∷ 0 ∷ (length rs + 12) ∷ 0 ∷ 0 ∷ 0 ∷ 0x54 ∷ 0x52 ∷ 0x45 ∷ 0x45 ∷ []
 
 -- of iso 1
 abbrev part : List ℕ → List ℕ
-part records = file 1 0 records
+part rs = file 1 0 rs
 
 -- file K's point, and with the weight 4,096; one of r 3, of weight 1 and of −1
 abbrev large : List ℕ
