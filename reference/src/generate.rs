@@ -87,15 +87,17 @@ pub fn part(random: &mut SplitMix64, shape: &Shape) -> Part {
     part_of_form(random, shape, Form::Mixed)
 }
 
-/// A random part of the given shape and form.
+/// A random part of the given shape and form, with as many lessers and cuts as
+/// other operators, or with few: of many there is mostly nothing left.
 pub fn part_of_form(random: &mut SplitMix64, shape: &Shape, form: Form) -> Part {
     let points = random.between(shape.points.0, shape.points.1);
+    let once_in = random.pick(&[2, 8, 64]);
     let (mut added, mut held) = (0, 0);
     let mut nodes = Vec::new();
     while added < points || held > 1 {
         let forced = added == points || held == 64;
         if held >= 2 && (forced || joins(random, form, added, held)) {
-            nodes.push(operator(random.pick(&OPERATORS)));
+            nodes.push(random_operator(random, once_in));
             held -= 1;
         } else {
             nodes.push(random_point(random, shape));
@@ -134,6 +136,14 @@ fn operator(kind: Kind) -> Node {
 
 fn point(r: u16, centre: [i16; 3], w: i16) -> Node {
     node(Kind::Point, r, centre, w)
+}
+
+/// A lesser or a cut once in `once_in` on average, else a sum or a greater.
+fn random_operator(random: &mut SplitMix64, once_in: i64) -> Node {
+    operator(match random.one_in(once_in) {
+        true => random.pick(&[Kind::Lesser, Kind::Cut]),
+        false => random.pick(&[Kind::Sum, Kind::Greater]),
+    })
 }
 
 fn random_point(random: &mut SplitMix64, shape: &Shape) -> Node {

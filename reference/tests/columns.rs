@@ -143,7 +143,7 @@ fn samples_where_a_tick_is_decided() {
     }
     println!("{ticks:?}");
     assert!(ticks.empty > 100_000 && ticks.inside > 100_000, "{ticks:?}");
-    assert!(ticks.crossing.iter().all(|&n| n > 5_000), "{ticks:?}");
+    assert!(ticks.crossing.iter().all(|&n| n > 3_000), "{ticks:?}");
 }
 
 /// Columns across a strut that stands where one tick ends and the next

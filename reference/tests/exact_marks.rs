@@ -174,12 +174,12 @@ fn few_points() {
         weight: (-6, 30),
         iso: (1, 6),
     };
-    run(31, &shape, 40, 1).assert_more(10_000, 200);
+    run(31, &shape, 40, 1).assert_more(1_500, 80);
 }
 
 #[test]
 fn overlapping_points() {
-    run(39, &OVERLAPPING, 40, 3).assert_more(5_000, 2_000);
+    run(39, &OVERLAPPING, 250, 32).assert_more(8_000, 1_500);
 }
 
 #[test]
@@ -191,7 +191,7 @@ fn small_radii() {
         weight: (-9, 40),
         iso: (1, 5),
     };
-    run(32, &shape, 60, 1).assert_more(1_000, 200);
+    run(32, &shape, 60, 1).assert_more(1_500, 100);
 }
 
 #[test]
@@ -215,7 +215,7 @@ fn deep_trees() {
         weight: (-5, 12),
         iso: (1, 5),
     };
-    run(34, &shape, 20, 4).assert_more(500, 500);
+    run(34, &shape, 20, 4).assert_more(500, 200);
 }
 
 #[test]
@@ -260,7 +260,7 @@ fn cancelling_points() {
 
 #[test]
 fn bored_parts() {
-    run_drawn(38, 120, generate::bored).assert_more(2_000, 2_000);
+    run_drawn(38, 120, generate::bored).assert_more(1_500, 1_500);
 }
 
 /// A first hit and a column claim the same of the field as the full cast.

@@ -19,7 +19,7 @@ use reference::field::{Bounds, Ray};
 use reference::lister::{input, list};
 use reference::part::{operator_record, FileBuilder, Kind, OPERATORS, RECORD};
 use reference::view::ViewerHit;
-use worked::{at_y, AXIS};
+use worked::{at_y, file_k, AXIS};
 
 /// 1 in the units of bounds.
 const ONE: i64 = 4_294_967_296;
@@ -158,6 +158,7 @@ fn rays_through_a_bore() {
     assert_eq!(axis([BALL, BORE], Kind::Lesser), core);
     assert_eq!(axis([BORE, BALL], Kind::Lesser), core);
     assert_eq!(axis([BALL, BORE], Kind::Greater), all);
+    assert_eq!(joined(1, &[BALL], &[]).build(), file_k());
     // a negative weight removes nothing, and leaves nothing of a lesser
     let hollow = (128, 0, -4);
     assert_eq!(axis([BALL, hollow], Kind::Cut), all);

@@ -13,8 +13,8 @@ use reference::part::Part;
 
 /// Scenes, a file and a ray each, of each of `GROUPS`, and of parts that nearly
 /// cancel or are bored.
-const SCENES: [usize; 9] = [1_000, 900, 600, 800, 400, 200, 600, 150, 50];
-const CANCELLING_OR_BORED: usize = 300;
+const SCENES: [usize; 9] = [800, 700, 900, 700, 400, 200, 600, 150, 50];
+const CANCELLING_OR_BORED: usize = 500;
 
 /// All requests of a host, eight for each scene, and what they covered.
 struct Run {
