@@ -75,23 +75,28 @@ rows =
     ∷ (recordK ++ trailer 0 0 1 0x18 0, Refused 5)
     ∷ (recordK ++ trailer 0 0x10 1 0x18 0, accepted 1 4096)
     ∷ (recordK ++ trailer 1 0x10 1 0x18 0, Refused 5)
-    -- kinds 0 and 4
+    -- kinds 0 and 6
     ∷ (operator 0 0 ++ trailerK, Refused 6)
-    ∷ (operator 4 0 ++ trailerK, Refused 6)
+    ∷ (operator 6 0 ++ trailerK, Refused 6)
     -- an operator's last byte
     ∷ (operator 2 1 ++ trailerK, Refused 7)
+    ∷ (operator 5 1 ++ trailerK, Refused 7)
     -- radius 1,024 and 1,025; x = -2047 and -2048
     ∷ (radius 0x00 0x04 ++ trailerK, accepted 1 1)
     ∷ (radius 0x01 0x04 ++ trailerK, Refused 8)
     ∷ (placed 0x01 0xf8 ++ trailerK, accepted 1 1)
     ∷ (placed 0x00 0xf8 ++ trailerK, Refused 8)
-    -- a lone sum
+    -- a lone sum, and a lone cut
     ∷ (operator 2 0 ++ trailerK, Refused 9)
-    -- the 65th held point; 64 and two values at the end; two points and a sum
+    ∷ (operator 5 0 ++ trailerK, Refused 9)
+    -- the 65th held point; 64 and two values at the end; two points and each operator
     ∷ (copies 65 ++ trailer 1 0 1 0x18 0x03, Refused 10)
     ∷ (copies 64 ++ trailer 1 0 1 0x0c 0x03, Refused 11)
     ∷ (copies 2 ++ trailer 1 0 1 0x24 0, Refused 11)
     ∷ (copies 2 ++ operator 2 0 ++ trailer 1 0 1 0x30 0, accepted 3 1)
+    ∷ (copies 2 ++ operator 3 0 ++ trailer 1 0 1 0x30 0, accepted 3 1)
+    ∷ (copies 2 ++ operator 4 0 ++ trailer 1 0 1 0x30 0, accepted 3 1)
+    ∷ (copies 2 ++ operator 5 0 ++ trailer 1 0 1 0x30 0, accepted 3 1)
     ∷ []
 
 pub checked : map (λ r. checkFile (r .0)) rows ≡ map (λ r. r .1) rows

@@ -76,7 +76,7 @@ badMark =
 abbrev pub at : ℤ → ℤ → Position
 at x y = record { x = x; y = y; z = pos 0 }
 
-abbrev lowHigh : ℤ → ℤ → Answer
+abbrev pub lowHigh : ℤ → ℤ → Answer
 lowHigh low high = bounded (place.Bounded (record { low = low; high = high }))
 
 -- "(−1024, 0, 0) to (1024, 0, 0)", at some y

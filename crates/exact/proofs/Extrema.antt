@@ -1,7 +1,7 @@
 -- The greater and the lesser of two integers.
 -- `max-le h k : maxℤ a b ≤ℤ c`, from `h : a ≤ℤ c` and `k : b ≤ℤ c`.
 use mathlib.Core.Path.{_≡_, sym, ap, _∙_}
-use mathlib.Core.Logic.{_⊎_, inl, inr}
+use mathlib.Core.Logic.{_⊎_, inl, inr, ⊎-swap}
 use Prim.Native.Nat.{ℕ, _≤_, max, min}
 use native.Mathlib.Nat.{le-max-left, le-max-right, max-eq-left, max-eq-right, min-eq-left, min-eq-right}
 use lib.IntN.{ℤ, pos, natAbs}
@@ -9,6 +9,7 @@ use lib.Signed.{ltZ, _≤ℤ_, ≤ℤ-refl}
 use Rattle.exact.specs.Extrema.{maxℤ, minℤ}
 use Rattle.exact.proofs.Order.{≤ℤ-trans, <ℤ-le, pos-reflect}
 use Rattle.exact.proofs.Tests.{cond-by, ltZ-true, ltZ-false}
+use Rattle.exact.proofs.Picks.{Picks, picked, later-l, later-r}
 
 -- ---- one of the two, and which
 
@@ -22,23 +23,29 @@ min-is a b = cond-by (ltZ a b) a b (λ e. <ℤ-le (ltZ-true a b e)) (ltZ-false a
 
 -- ---- the order
 
+pub max-picks : Picks (λ (a b : ℤ). a ≤ℤ b) maxℤ
+max-picks = record { same = ≤ℤ-refl; is = max-is }
+
+pub min-picks : Picks (λ (a b : ℤ). b ≤ℤ a) minℤ
+min-picks = record { same = ≤ℤ-refl; is = λ a b. ⊎-swap (min-is a b) }
+
 pub le-max-l : (a b : ℤ) → a ≤ℤ maxℤ a b
-le-max-l a b = elim (max-is a b) [ inl h ↦ rw (h .1) (h .0) | inr h ↦ rw (h .1) (≤ℤ-refl a) ]
+le-max-l = later-l max-picks
 
 pub le-max-r : (a b : ℤ) → b ≤ℤ maxℤ a b
-le-max-r a b = elim (max-is a b) [ inl h ↦ rw (h .1) (≤ℤ-refl b) | inr h ↦ rw (h .1) (h .0) ]
+le-max-r = later-r max-picks
 
 pub max-le : {a b k : ℤ} → a ≤ℤ k → b ≤ℤ k → maxℤ a b ≤ℤ k
-max-le {a} {b} h l = elim (max-is a b) [ inl u ↦ rw (u .1) l | inr u ↦ rw (u .1) h ]
+max-le {a} {b} {k} h l = picked max-picks (λ (z : ℤ). z ≤ℤ k) a b h l
 
 pub min-le-l : (a b : ℤ) → minℤ a b ≤ℤ a
-min-le-l a b = elim (min-is a b) [ inl h ↦ rw (h .1) (≤ℤ-refl a) | inr h ↦ rw (h .1) (h .0) ]
+min-le-l = later-l min-picks
 
 pub min-le-r : (a b : ℤ) → minℤ a b ≤ℤ b
-min-le-r a b = elim (min-is a b) [ inl h ↦ rw (h .1) (h .0) | inr h ↦ rw (h .1) (≤ℤ-refl b) ]
+min-le-r = later-r min-picks
 
 pub le-min : {a b k : ℤ} → k ≤ℤ a → k ≤ℤ b → k ≤ℤ minℤ a b
-le-min {a} {b} h l = elim (min-is a b) [ inl u ↦ rw (u .1) h | inr u ↦ rw (u .1) l ]
+le-min {a} {b} {k} h l = picked min-picks (λ (z : ℤ). k ≤ℤ z) a b h l
 
 pub max-mono : {a b c d : ℤ} → a ≤ℤ c → b ≤ℤ d → maxℤ a b ≤ℤ maxℤ c d
 max-mono {c = c} {d = d} h k = max-le (≤ℤ-trans h (le-max-l c d)) (≤ℤ-trans k (le-max-r c d))
@@ -61,13 +68,9 @@ pos-min a b = elim (min-is (pos a) (pos b)) [
 ]
 
 pub natAbs-max : (a b : ℤ) → natAbs (maxℤ a b) ≤ max (natAbs a) (natAbs b)
-natAbs-max a b = elim (max-is a b) [
-  | inl h ↦ rw (h .1) (le-max-right (natAbs a) (natAbs b))
-  | inr h ↦ rw (h .1) (le-max-left (natAbs a) (natAbs b))
-]
+natAbs-max a b =
+    picked max-picks (λ (z : ℤ). natAbs z ≤ max (natAbs a) (natAbs b)) a b (le-max-left (natAbs a) (natAbs b)) (le-max-right (natAbs a) (natAbs b))
 
 pub natAbs-min : (a b : ℤ) → natAbs (minℤ a b) ≤ max (natAbs a) (natAbs b)
-natAbs-min a b = elim (min-is a b) [
-  | inl h ↦ rw (h .1) (le-max-left (natAbs a) (natAbs b))
-  | inr h ↦ rw (h .1) (le-max-right (natAbs a) (natAbs b))
-]
+natAbs-min a b =
+    picked min-picks (λ (z : ℤ). natAbs z ≤ max (natAbs a) (natAbs b)) a b (le-max-left (natAbs a) (natAbs b)) (le-max-right (natAbs a) (natAbs b))

@@ -1,19 +1,23 @@
 -- Fractions: their order, and what `plus`, `less`, `greater` and `lesser` do to it. Laws that pass over a fraction ask that it be `Proper`.
 -- `≼-trans p h k : x ≼ z`, from `h : x ≼ y`, `k : y ≼ z` and `p : Proper y`.
 use mathlib.Core.Path.{_≡_, refl, ap₂}
-use mathlib.Core.Logic.{_⊎_}
+use mathlib.Core.Logic.{_⊎_, ⊎-swap}
 use mathlib.Core.Bool.{true, false}
 use Prim.Native.Nat.{ℕ}
 use native.Mathlib.Nat.{mul-pos, mul-comm, mul-assoc, mul-one}
 use lib.IntN.{ℤ, pos, _+ℤ_, _-ℤ_, _*ℤ_}
-use lib.Signed.{_≤ℤ_}
+use lib.Signed.{_≤ℤ_, ≤ℤ-refl}
 use Rattle.exact.specs.Fraction.{Fraction, _over_, Proper, _≼_, atMost, plus, less, greater, lesser}
 use Rattle.exact.proofs.Ring.{_⊕_, _⊖_, _⊗_, #, _≔_, ring}
 use Rattle.exact.proofs.Order.{nn-add, nn-mul, nn-pos, <ℤ-le, ≤ℤ-of-eq, mul-cancel-le, pos-mono-lt}
 use Rattle.exact.proofs.Certificates.{_≦_by_, le, nn}
 use Rattle.exact.proofs.Tests.{cond-by, leZ-true, leZ-false}
+use Rattle.exact.proofs.Picks.{Picks, picked, later-l, later-r}
 
 -- ---- the order
+
+pub ≼-refl : (x : Fraction) → x ≼ x
+≼-refl x = record { cross = ≤ℤ-refl (x .num *ℤ pos (x .den)) }
 
 pub ≼-trans : {x y z : Fraction} → Proper y → x ≼ y → y ≼ z → x ≼ z
 ≼-trans {x} {y} {z} p h k = record {
@@ -113,3 +117,19 @@ greater-is x y = cond-by (atMost x y) y x (atMost-true x y) (atMost-false x y)
 pub lesser-is : (x y : Fraction) → ((x ≼ y) × (lesser x y ≡ x)) ⊎ ((y ≼ x) × (lesser x y ≡ y))
 unfolding lesser
 lesser-is x y = cond-by (atMost x y) x y (atMost-true x y) (atMost-false x y)
+
+pub greater-picks : Picks (λ (x y : Fraction). x ≼ y) greater
+greater-picks = record { same = ≼-refl; is = greater-is }
+
+pub lesser-picks : Picks (λ (x y : Fraction). y ≼ x) lesser
+lesser-picks = record { same = ≼-refl; is = λ x y. ⊎-swap (lesser-is x y) }
+
+pub greater-mono : {x y x′ y′ : Fraction} → Proper x′ → Proper y′ → x ≼ x′ → y ≼ y′ → greater x y ≼ greater x′ y′
+greater-mono {x} {y} {x′} {y′} p q h k =
+    picked greater-picks (λ (z : Fraction). z ≼ greater x′ y′) x y
+    (≼-trans p h (later-l greater-picks x′ y′)) (≼-trans q k (later-r greater-picks x′ y′))
+
+pub lesser-mono : {x y x′ y′ : Fraction} → Proper x → Proper y → x ≼ x′ → y ≼ y′ → lesser x y ≼ lesser x′ y′
+lesser-mono {x} {y} {x′} {y′} p q h k =
+    picked lesser-picks (λ (z : Fraction). lesser x y ≼ z) x′ y′
+    (≼-trans p (later-l lesser-picks x y) h) (≼-trans q (later-r lesser-picks x y) k)

@@ -4,6 +4,7 @@ pub mod Linear
 pub mod Order
 pub mod Absolute
 pub mod Tests
+pub mod Picks
 pub mod Extrema
 pub mod Certificates
 pub mod Naturals

@@ -7,6 +7,7 @@ pub mod Width
 pub mod Kernels
 pub mod Points
 pub mod Operators
+pub mod Overlaps
 pub mod Enclosure
 pub mod States
 pub mod Nested

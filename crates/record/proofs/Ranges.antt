@@ -50,7 +50,7 @@ unfolding recordQuestions nodeQuestions kindKnown
 ready r held ok =
     let n = r .node in
     let q = all-yes (recordQuestions r held) ok in
-    let kind = betweenℤ-true (pos 1) (pos 3) (n .kind) (q 0) in
+    let kind = betweenℤ-true (pos 1) (pos 5) (n .kind) (q 0) in
     record {
       kind-low = kind .0;
       kind-high = kind .1;

@@ -1,4 +1,4 @@
--- The nodes of a tree, in postfix order, and the tests of a node (document 01, questions 6 and 8 to 10).
+-- The nodes of a tree, in postfix order, and the tests of a node (document 01, questions 6 and 8 to 10; document 02, P1).
 use Prim.Native.Nat.{ℕ, _+_, _-_}
 use mathlib.Core.Bool.{Bool, true, cond, _&&_}
 use lib.IntN.{ℤ, pos, negℤ}
@@ -9,9 +9,9 @@ use Rattle.record.specs.declared.Node.{Node}
 unfoldable pub isPoint : Node → Bool
 isPoint n = eqℤ (n .kind) (pos 1)
 
--- kinds 1 point, 2 sum, 3 greater
+-- "1 point, 2 sum, 3 greater", 4 lesser, 5 cut: "question 6 reads 1 to 5"
 unfoldable pub kindKnown : Node → Bool
-kindKnown n = betweenℤ (pos 1) (pos 3) (n .kind)
+kindKnown n = betweenℤ (pos 1) (pos 5) (n .kind)
 
 unfoldable pub coordinate : ℤ → Bool
 coordinate z = betweenℤ (negℤ (pos 2047)) (pos 2047) z

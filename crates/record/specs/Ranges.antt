@@ -20,6 +20,6 @@ pub record PointRanges (n : Node) : Type 0 where
 -- a node that finds so many values held (questions 6 and 8 to 10)
 pub record Ready (n : Node) (held : ℕ) : Type 0 where
   pub kind-low : pos 1 ≤ℤ n .kind
-  pub kind-high : n .kind ≤ℤ pos 3
+  pub kind-high : n .kind ≤ℤ pos 5
   pub point : isPoint n ≡ true → PointRanges n × (held < 64)
   pub operator : isPoint n ≡ false → 2 ≤ held

@@ -154,7 +154,7 @@ pub fn record_questions(file: &[u8], at: usize, node: Node, held: usize) -> Verd
     requires { ⌜ node ≡ nodeAt (now file) at ⌝ }
     ensures { λ r. ⌜ r ≡ firstNo (recordQuestions (recordAt (now (file .entry)) at) held) ⌝ }
 {
-    let known = is_between_signed(1, 3, node.kind);
+    let known = is_between_signed(1, 5, node.kind);
     let zeroed = is_zeroed(file, at, node);
     ask(6, known, ask(7, zeroed, node_questions(node, held)))
 }
