@@ -43,8 +43,8 @@
  *   docs/FORMAT.md, installed as share/doc/fenalukki/FORMAT.md, says how to
  *   build one and has a worked file byte by byte. In short: numbers are
  *   little-endian. Records of 12 bytes are in postfix order: a point adds a
- *   held value, an operator replaces the last two, of which the one added first
- *   is the earlier, by one, and one is left at the end.
+ *   held value, an operator replaces the last two by one, the last being its
+ *   later operand, and one is left at the end.
  *
  *     byte 0       kind: 1 point, or an operator: 2 sum, 3 greater, 4 lesser,
  *                  5 cut
@@ -128,11 +128,12 @@
  *
  *   A probe is one working out of the field's bounds over a stretch of ticks.
  *   The time of a cast goes by its probes times the part's records. The most
- *   are 2,047 probes of 511 records. A full cast of that size, of 256 points and
- *   255 sums that leave every tick undecided, takes 55 million instructions by
- *   callgrind, which is 53 for a probe and record; no cast tried took more. A
- *   column takes the same. A smaller budget makes fewer probes and so bounds a
- *   call's time. docs/BENCHMARKS.md has the figures of other parts.
+ *   are 2,047 probes of 511 records. A full cast of that size, of 256 points, a
+ *   sum and 254 cuts that leave every tick undecided, takes 62 million
+ *   instructions by callgrind, which is 59 for a probe and record; no cast tried
+ *   took more. With 255 sums it takes 58 million. A column takes the same. A
+ *   smaller budget makes fewer probes and so bounds a call's time.
+ *   docs/BENCHMARKS.md has the figures of other parts.
  *
  * Platform
  *

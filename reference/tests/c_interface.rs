@@ -6,7 +6,6 @@ mod prototypes;
 
 use prototypes::{c_entries, rattle_entries, Entry};
 use reference::cast::{self, Column, FirstHit, FullCast, Mark};
-use reference::field::{place_bounds, whole_place};
 use reference::generate::{self, Shape, SplitMix64};
 use reference::part::{self, FileBuilder};
 use std::collections::{BTreeMap, BTreeSet};
@@ -348,14 +347,13 @@ fn the_width_of_the_bounds_at_a_place() {
     };
     let mut random = SplitMix64::new(131_071);
     for _ in 0..2000 {
-        let nodes = generate::part(&mut random, &shape).nodes;
+        let part = generate::part(&mut random, &shape);
         let at = [0; 3].map(|_: i32| random.between(-600, 600) as i32);
-        let bounds = place_bounds(&nodes, &whole_place(at)).expect("one value");
-        let weights: i64 = nodes.iter().map(|node| i64::from(node.w).abs()).sum();
-        assert!(
-            bounds.high - bounds.low <= 131_071 * weights,
-            "{at:?} {nodes:?}"
-        );
+        let file = FileBuilder::from(&part).build();
+        let bounds = cast::bounds_at(&file, at).expect("bounds");
+        let weights = part.nodes.iter().map(|node| i64::from(node.w).abs());
+        let most = 131_071 * weights.sum::<i64>();
+        assert!(bounds.high - bounds.low <= most, "{at:?} {part:?}");
     }
     let k = FileBuilder::new(1).point(512, [0; 3], 4).build();
     let bounds = cast::bounds_at(&k, [1, 0, 0]).expect("bounds");
