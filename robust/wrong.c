@@ -5,6 +5,7 @@
  * archive's.
  */
 #include "fenalukki.h"
+#include "lent.h"
 
 #include <stdlib.h>
 #include <string.h>
@@ -123,21 +124,78 @@ static uint32_t distance_of(const uint8_t *file, size_t file_len)
     return file_len < 12 ? 0 : bytes_at(file + file_len - 8);
 }
 
-/* The most values held at once, were no number too great; 0 where the records
- * are not to be found. */
+/* Where the first record stands; the file's end if it is not to be found. */
+static size_t first_record(const uint8_t *file, size_t file_len)
+{
+    size_t distance = distance_of(file, file_len);
+
+    return distance > file_len || distance < 24 ? file_len : file_len - distance;
+}
+
+/* The most values held at once, were no number too great. */
 static long most_held(const uint8_t *file, size_t file_len)
 {
-    size_t distance = distance_of(file, file_len), at;
+    size_t at;
     long held = 0, most = 0;
 
-    if (distance > file_len || distance < 24)
-        return 0;
-    for (at = file_len - distance; at + 24 <= file_len; at += 12) {
+    for (at = first_record(file, file_len); at + 24 <= file_len; at += 12) {
         held += file[at] == 1 ? 1 : -1;
         if (held > most)
             most = held;
     }
     return most;
+}
+
+static int has_kind(const uint8_t *file, size_t file_len, uint8_t kind)
+{
+    size_t at = first_record(file, file_len);
+
+    while (at + 24 <= file_len && file[at] != kind)
+        at += 12;
+    return at + 24 <= file_len;
+}
+
+/* The operator that a record's kind is taken for. */
+static uint8_t mistaken(uint8_t kind)
+{
+    if (wrong("cut-as-lesser") && kind == 5)
+        return 4;
+    if (wrong("cut-as-greater") && kind == 5)
+        return 3;
+    if (wrong("lesser-as-greater") && kind == 4)
+        return 3;
+    return kind;
+}
+
+/* Has two points change places that stand before a record which is a cut. */
+static void exchange_operands(uint8_t *record)
+{
+    uint8_t later[12];
+
+    if (!wrong("cut-operands-exchanged") || record[0] != 5 || record[-12] != 1 ||
+        record[-24] != 1)
+        return;
+    memcpy(later, record - 12, 12);
+    memcpy(record - 12, record - 24, 12);
+    memcpy(record - 24, later, 12);
+}
+
+/* A copy of the file with operators mistaken or operands exchanged; the file
+ * itself where that changes nothing. */
+static const uint8_t *misread(const uint8_t *file, size_t file_len)
+{
+    static uint8_t copy[LENT_MOST];
+    size_t first = first_record(file, file_len), at;
+
+    if (first == file_len)
+        return file;
+    memcpy(copy, file, file_len);
+    for (at = first; at + 24 <= file_len; at += 12) {
+        if (at >= first + 24)
+            exchange_operands(copy + at);
+        copy[at] = mistaken(copy[at]);
+    }
+    return memcmp(copy, file, file_len) == 0 ? file : copy;
 }
 
 /* The number of a full cast by a wrong limit of the file's questions. */
@@ -158,6 +216,10 @@ static uint32_t misjudged(const uint8_t *file, size_t file_len, uint32_t number)
         return COMPLETE;
     if (wrong("refuses-iso-4096") && accepted && iso_of(file, file_len) == 4096)
         return 5;
+    if (wrong("passes-kind-6") && number == 6 && has_kind(file, file_len, 6))
+        return COMPLETE;
+    if (wrong("refuses-kind-5") && accepted && has_kind(file, file_len, 5))
+        return 6;
     if (wrong("passes-held-65") && number == 10 && most_held(file, file_len) == 65)
         return COMPLETE;
     if (wrong("refuses-held-64") && accepted && most_held(file, file_len) == 64)
@@ -206,8 +268,8 @@ static uint64_t misviewed(FLOATS, uint64_t number)
 uint32_t __wrap_fenalukki_full_cast(FILE_BYTES, ENDS, uint32_t budget, uint8_t *marks,
                                     size_t marks_len)
 {
-    uint32_t number = __real_fenalukki_full_cast(file, told_file(file_len), RAY, budget, marks,
-                                                 told_room(marks_len));
+    uint32_t number = __real_fenalukki_full_cast(misread(file, file_len), told_file(file_len),
+                                                 RAY, budget, marks, told_room(marks_len));
 
     touch_file(file, file_len);
     touch_buffer(number, marks, marks_len, 1024);

@@ -185,7 +185,7 @@ pub fn bounds_at(file: &[u8], at: [i32; 3]) -> Result<Bounds, u32> {
     if !within_reach(&at) {
         return Err(12);
     }
-    place_bounds(&part.nodes, &whole_place(at)).ok_or(11)
+    place_bounds(&part, &whole_place(at)).ok_or(11)
 }
 
 /// Judges bounds: empty, inside, or else undecided. For a single tick the
@@ -203,14 +203,14 @@ pub fn judge(bounds: Bounds, iso: u16) -> Mark {
 
 /// The mark of one tick by its own bounds alone, by fractions.
 pub fn judge_tick(part: &Part, ray: &Ray, tick: u32) -> Option<Mark> {
-    let bounds = tick_bounds(&part.nodes, ray, tick, tick + 1)?;
+    let bounds = tick_bounds(part, ray, tick, tick + 1)?;
     Some(judge(bounds, part.iso))
 }
 
 /// The probe count of a finished span, as the rule defines it: 1 if decided
 /// or one tick long, else 1 and the counts of the halves.
 pub fn probe_count(part: &Part, ray: &Ray, first: u32, after: u32) -> Option<u32> {
-    let bounds = tick_bounds(&part.nodes, ray, first, after)?;
+    let bounds = tick_bounds(part, ray, first, after)?;
     if judge(bounds, part.iso) != Mark::Crossing || after - first == 1 {
         return Some(1);
     }
@@ -236,7 +236,7 @@ fn search<F: SpanBounds>(
     budget: Option<u32>,
     mut settle: impl FnMut(u32, u32, Mark) -> bool,
 ) -> Option<(End, u32)> {
-    let field = F::new(&part.nodes, *ray);
+    let field = F::new(part, *ray);
     let mut waiting = vec![(0, TICKS)];
     let mut probes = 0;
     while let Some((first, after)) = waiting.pop() {

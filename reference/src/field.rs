@@ -7,7 +7,7 @@
 
 use crate::big::Big;
 use crate::fraction::Fraction;
-use crate::part::{Kind, Node};
+use crate::part::{Kind, Node, Part};
 
 /// A ray from end A to end B, in steps.
 #[derive(Clone, Copy, Debug, PartialEq, Eq)]
@@ -56,25 +56,21 @@ pub fn whole_place(at: [i32; 3]) -> Place {
     at.map(|c| Fraction::from(i64::from(c)))
 }
 
-/// Works out a tree given in postfix order. `None` if the nodes are no tree or
-/// a point has no value.
+/// Works out a tree given in postfix order; `join` gets an operator, its earlier
+/// operand and its later one. `None` if the nodes are no tree or a point has no
+/// value.
 fn fold<T>(
     nodes: &[Node],
     mut leaf: impl FnMut(usize, &Node) -> Option<T>,
-    sum: impl Fn(T, T) -> T,
-    greater: impl Fn(T, T) -> T,
+    join: impl Fn(Kind, T, T) -> Option<T>,
 ) -> Option<T> {
     let mut held = Vec::new();
     for (index, node) in nodes.iter().enumerate() {
         let value = match node.kind {
             Kind::Point => leaf(index, node)?,
-            Kind::Sum => {
-                let right = held.pop()?;
-                sum(held.pop()?, right)
-            }
-            Kind::Greater => {
-                let right = held.pop()?;
-                greater(held.pop()?, right)
+            operator => {
+                let later = held.pop()?;
+                join(operator, held.pop()?, later)?
             }
         };
         held.push(value);
@@ -112,23 +108,36 @@ pub fn u_at(place: &Place, point: &Node) -> Fraction {
     u_of(&distance_squared(place, point), point)
 }
 
-/// The exact field of the tree at a place.
-pub fn field_at(nodes: &[Node], place: &Place) -> Option<Fraction> {
-    fold(
-        nodes,
-        |_, point| {
-            let u = u_at(place, point);
-            Some(&(&u * &u) * &Fraction::from(i64::from(point.w)))
-        },
-        |left, right| &left + &right,
-        |left, right| left.max(right),
-    )
+/// What an operator makes of two exact fields in a part of this iso-value.
+/// `None` of a point.
+fn join_fields(kind: Kind, iso: u16, earlier: Fraction, later: Fraction) -> Option<Fraction> {
+    match kind {
+        Kind::Point => None,
+        Kind::Sum => Some(&earlier + &later),
+        Kind::Greater => Some(earlier.max(later)),
+        Kind::Lesser => Some(earlier.min(later)),
+        Kind::Cut => {
+            let twice_iso = &Fraction::from(2) * &Fraction::from(i64::from(iso));
+            Some(earlier.min(&twice_iso - &later))
+        }
+    }
+}
+
+/// The exact field of the part's tree at a place.
+pub fn field_at(part: &Part, place: &Place) -> Option<Fraction> {
+    let leaf = |_, point: &Node| {
+        let u = u_at(place, point);
+        Some(&(&u * &u) * &Fraction::from(i64::from(point.w)))
+    };
+    fold(&part.nodes, leaf, |kind, earlier, later| {
+        join_fields(kind, part.iso, earlier, later)
+    })
 }
 
 /// The exact field at n/m of the way from A to B. `None` if m is 0.
-pub fn field_on_ray(nodes: &[Node], ray: &Ray, n: i64, m: i64) -> Option<Fraction> {
+pub fn field_on_ray(part: &Part, ray: &Ray, n: i64, m: i64) -> Option<Fraction> {
     let s = Fraction::new(i128::from(n), i128::from(m))?;
-    field_at(nodes, &ray.place(&s))
+    field_at(part, &ray.place(&s))
 }
 
 /// The fraction s of the place nearest a point's centre on the whole line
@@ -192,43 +201,56 @@ fn weigh(w: i16, low: i64, high: i64) -> Bounds {
     }
 }
 
-fn sum_bounds(left: Bounds, right: Bounds) -> Bounds {
+/// Twice the iso-value minus a field with these bounds.
+fn removed(iso: u16, bounds: Bounds) -> Bounds {
+    let twice_iso = 2 * i64::from(iso) * 4_294_967_296;
     Bounds {
-        low: left.low + right.low,
-        high: left.high + right.high,
+        low: twice_iso - bounds.high,
+        high: twice_iso - bounds.low,
     }
 }
 
-fn greater_bounds(left: Bounds, right: Bounds) -> Bounds {
-    Bounds {
-        low: left.low.max(right.low),
-        high: left.high.max(right.high),
+/// What an operator makes of the bounds of two fields in a part of this
+/// iso-value. `None` of a point.
+fn join_bounds(kind: Kind, iso: u16, earlier: Bounds, later: Bounds) -> Option<Bounds> {
+    let each = |join: fn(i64, i64) -> i64, later: Bounds| Bounds {
+        low: join(earlier.low, later.low),
+        high: join(earlier.high, later.high),
+    };
+    match kind {
+        Kind::Point => None,
+        Kind::Sum => Some(each(|x, y| x + y, later)),
+        Kind::Greater => Some(each(i64::max, later)),
+        Kind::Lesser => Some(each(i64::min, later)),
+        Kind::Cut => Some(each(i64::min, removed(iso, later))),
     }
 }
 
-/// The bounds of the tree, told the two q of each point.
+/// The bounds of the part's tree, told the two q of each point.
 pub(crate) fn tree_bounds(
-    nodes: &[Node],
+    part: &Part,
     both_q: impl Fn(usize, &Node) -> Option<(i64, i64)>,
 ) -> Option<Bounds> {
     let leaf = |index: usize, point: &Node| {
         let (low, high) = both_q(index, point)?;
         Some(weigh(point.w, low, high))
     };
-    fold(nodes, leaf, sum_bounds, greater_bounds)
+    fold(&part.nodes, leaf, |kind, earlier, later| {
+        join_bounds(kind, part.iso, earlier, later)
+    })
 }
 
-/// The bounds of the tree over the ray from `from` to `to`.
-pub fn span_bounds(nodes: &[Node], ray: &Ray, from: &Fraction, to: &Fraction) -> Option<Bounds> {
-    tree_bounds(nodes, |_, point| {
+/// The bounds of the part's tree over the ray from `from` to `to`.
+pub fn span_bounds(part: &Part, ray: &Ray, from: &Fraction, to: &Fraction) -> Option<Bounds> {
+    tree_bounds(part, |_, point| {
         let (least, greatest) = u_range(ray, point, from, to);
         Some(q_range(&least, &greatest))
     })
 }
 
-/// The bounds of the tree at one place.
-pub fn place_bounds(nodes: &[Node], place: &Place) -> Option<Bounds> {
-    tree_bounds(nodes, |_, point| {
+/// The bounds of the part's tree at one place.
+pub fn place_bounds(part: &Part, place: &Place) -> Option<Bounds> {
+    tree_bounds(part, |_, point| {
         let u = u_at(place, point);
         Some(q_range(&u, &u))
     })
@@ -239,16 +261,16 @@ pub(crate) fn start_of(tick: u32) -> Option<Fraction> {
     Fraction::new(i128::from(tick), 1024)
 }
 
-/// The bounds of the tree over the ticks from `first` up to, not including,
-/// `after`.
-pub fn tick_bounds(nodes: &[Node], ray: &Ray, first: u32, after: u32) -> Option<Bounds> {
-    span_bounds(nodes, ray, &start_of(first)?, &start_of(after)?)
+/// The bounds of the part's tree over the ticks from `first` up to, not
+/// including, `after`.
+pub fn tick_bounds(part: &Part, ray: &Ray, first: u32, after: u32) -> Option<Bounds> {
+    span_bounds(part, ray, &start_of(first)?, &start_of(after)?)
 }
 
 /// Bounds of spans of whole ticks of one ray.
 pub trait SpanBounds {
-    /// Prepares the ray.
-    fn new(nodes: &[Node], ray: Ray) -> Self;
+    /// Prepares the ray through a part.
+    fn new(part: &Part, ray: Ray) -> Self;
 
     /// The bounds over the ticks from `first` up to, not including, `after`.
     fn bounds(&self, first: u32, after: u32) -> Option<Bounds>;
@@ -256,18 +278,18 @@ pub trait SpanBounds {
 
 /// Those bounds by fractions, each worked out afresh by `tick_bounds`.
 pub struct ExactField {
-    nodes: Vec<Node>,
+    part: Part,
     ray: Ray,
 }
 
 impl SpanBounds for ExactField {
-    fn new(nodes: &[Node], ray: Ray) -> ExactField {
-        let nodes = nodes.to_vec();
-        ExactField { nodes, ray }
+    fn new(part: &Part, ray: Ray) -> ExactField {
+        let part = part.clone();
+        ExactField { part, ray }
     }
 
     fn bounds(&self, first: u32, after: u32) -> Option<Bounds> {
-        tick_bounds(&self.nodes, &self.ray, first, after)
+        tick_bounds(&self.part, &self.ray, first, after)
     }
 }
 

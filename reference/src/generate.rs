@@ -1,7 +1,8 @@
 //! Repeatable pseudo-random trees, rays and damaged files for tests.
 
 use crate::field::Ray;
-use crate::part::{operator_record, point_record, FileBuilder, Kind, Node, Part, FILE_MARK, REACH};
+use crate::part::{operator_record, point_record, FileBuilder, Kind, Node, Part};
+use crate::part::{FILE_MARK, OPERATORS, REACH};
 
 /// The SplitMix64 generator.
 #[derive(Clone, Debug)]
@@ -55,6 +56,16 @@ pub struct Shape {
     pub iso: (i64, i64),
 }
 
+/// A few points that all overlap, so that what a lesser and a cut leave has a
+/// surface.
+pub const OVERLAPPING: Shape = Shape {
+    points: (2, 6),
+    reach: 150,
+    radius: (300, 1024),
+    weight: (5, 90),
+    iso: (1, 12),
+};
+
 /// How a part's tree is joined.
 #[derive(Clone, Copy, Debug, PartialEq, Eq)]
 pub enum Form {
@@ -76,18 +87,20 @@ pub fn part(random: &mut SplitMix64, shape: &Shape) -> Part {
     part_of_form(random, shape, Form::Mixed)
 }
 
-/// A random part of the given shape and form.
+/// A random part of the given shape and form, with as many lessers and cuts as
+/// other operators, or with few: of many there is mostly nothing left.
 pub fn part_of_form(random: &mut SplitMix64, shape: &Shape, form: Form) -> Part {
     let points = random.between(shape.points.0, shape.points.1);
+    let once_in = random.pick(&[2, 8, 64]);
     let (mut added, mut held) = (0, 0);
     let mut nodes = Vec::new();
     while added < points || held > 1 {
         let forced = added == points || held == 64;
         if held >= 2 && (forced || joins(random, form, added, held)) {
-            nodes.push(operator(random.pick(&[Kind::Sum, Kind::Greater])));
+            nodes.push(random_operator(random, once_in));
             held -= 1;
         } else {
-            nodes.push(point(random, shape));
+            nodes.push(random_point(random, shape));
             added += 1;
             held += 1;
         }
@@ -106,46 +119,54 @@ fn joins(random: &mut SplitMix64, form: Form, added: i64, held: u32) -> bool {
     }
 }
 
-fn operator(kind: Kind) -> Node {
+fn node(kind: Kind, r: u16, [x, y, z]: [i16; 3], w: i16) -> Node {
     Node {
         kind,
-        r: 0,
-        x: 0,
-        y: 0,
-        z: 0,
-        w: 0,
-    }
-}
-
-fn point(random: &mut SplitMix64, shape: &Shape) -> Node {
-    let mut coordinate = || random.between(-shape.reach, shape.reach) as i16;
-    let (x, y, z) = (coordinate(), coordinate(), coordinate());
-    Node {
-        kind: Kind::Point,
-        r: random.between(shape.radius.0, shape.radius.1) as u16,
+        r,
         x,
         y,
         z,
-        w: random.between(shape.weight.0, shape.weight.1) as i16,
+        w,
     }
 }
 
+fn operator(kind: Kind) -> Node {
+    node(kind, 0, [0; 3], 0)
+}
+
+fn point(r: u16, centre: [i16; 3], w: i16) -> Node {
+    node(Kind::Point, r, centre, w)
+}
+
+/// A lesser or a cut once in `once_in` on average, else a sum or a greater.
+fn random_operator(random: &mut SplitMix64, once_in: i64) -> Node {
+    operator(match random.one_in(once_in) {
+        true => random.pick(&[Kind::Lesser, Kind::Cut]),
+        false => random.pick(&[Kind::Sum, Kind::Greater]),
+    })
+}
+
+fn random_point(random: &mut SplitMix64, shape: &Shape) -> Node {
+    let mut coordinate = || random.between(-shape.reach, shape.reach) as i16;
+    let centre = [coordinate(), coordinate(), coordinate()];
+    let r = random.between(shape.radius.0, shape.radius.1) as u16;
+    let w = random.between(shape.weight.0, shape.weight.1) as i16;
+    point(r, centre, w)
+}
+
+/// A part that nearly cancels or a bored one.
+pub fn cancelling_or_bored(random: &mut SplitMix64) -> Part {
+    random.pick(&[cancelling, bored])(random)
+}
+
 /// Two points that nearly cancel, so that many ticks stay undecided, and the
-/// greater of them and a third.
+/// greater of them and a third, or the third cut out of them.
 pub fn cancelling(random: &mut SplitMix64) -> Part {
     let w = random.between(500, 4000) as i16;
     let r = random.between(300, 1000) as u16;
     let mut near = || random.between(-3, 3) as i16;
     let second = [near(), near(), near()];
     let (more, wider) = (near() * 5, near());
-    let point = |r, [x, y, z]: [i16; 3], w| Node {
-        kind: Kind::Point,
-        r,
-        x,
-        y,
-        z,
-        w,
-    };
     Part {
         iso: random.between(1, 30) as u16,
         nodes: vec![
@@ -153,7 +174,35 @@ pub fn cancelling(random: &mut SplitMix64) -> Part {
             point(r.saturating_add_signed(wider), second, more - w),
             operator(Kind::Sum),
             point(200, [100, 0, 0], 20),
-            operator(Kind::Greater),
+            operator(random.pick(&[Kind::Greater, Kind::Cut])),
+        ],
+    }
+}
+
+/// A block with a bore in which a plug is left standing, the lesser of it and a
+/// ball, an arm added, and a notch cut into all. The bore without its plug is a
+/// cut too.
+pub fn bored(random: &mut SplitMix64) -> Part {
+    let iso = random.between(1, 9) as u16;
+    let mut about = |r: i64, reach: i64, w: i64| {
+        let centre = [0; 3].map(|_: i16| random.between(-reach, reach) as i16);
+        let r = random.between(r / 2, r) as u16;
+        point(r, centre, random.between(w / 4, w) as i16)
+    };
+    Part {
+        iso,
+        nodes: vec![
+            about(1000, 50, 60),
+            about(500, 100, 200),
+            about(150, 90, 300),
+            operator(Kind::Cut),
+            operator(Kind::Cut),
+            about(900, 200, 90),
+            operator(Kind::Lesser),
+            about(400, 400, 30),
+            operator(Kind::Sum),
+            about(300, 300, 50),
+            operator(Kind::Cut),
         ],
     }
 }
@@ -184,14 +233,12 @@ fn grid([width, depth, height]: [i16; 3], apart: i16, r: u16) -> Part {
     let layer = width * depth;
     let mut nodes = Vec::new();
     for n in 0..layer * height {
-        nodes.push(Node {
-            kind: Kind::Point,
-            r,
-            x: at(n % width, width),
-            y: at(n % layer / width, depth),
-            z: at(n / layer, height),
-            w: 4,
-        });
+        let centre = [
+            at(n % width, width),
+            at(n % layer / width, depth),
+            at(n / layer, height),
+        ];
+        nodes.push(point(r, centre, 4));
         if n % layer > 0 {
             nodes.push(operator(Kind::Sum));
         }
@@ -359,8 +406,8 @@ pub fn random_records(random: &mut SplitMix64) -> Vec<u8> {
     for _ in 0..random.pick(&[1, 2, 3, 3, 5, 8, 70]) {
         let centre = [0; 3].map(|_: i16| random.between(-2060, 2060) as i16);
         let mut record = match random.between(0, 9) {
-            0 => operator_record(random.pick(&[0, 4, 255])),
-            1..=4 => operator_record(random.pick(&[2, 3])),
+            0 => operator_record(random.pick(&[0, 6, 255])),
+            1..=4 => operator_record(random.pick(&OPERATORS) as u8),
             _ => point_record(random.between(0, 1030) as u16, centre, 40),
         };
         if random.one_in(20) {
@@ -382,7 +429,7 @@ pub fn fault(builder: FileBuilder, question: u32) -> FileBuilder {
         3 => builder.version(2),
         4 => builder.distance(25),
         5 => builder.iso(0),
-        6 => builder.raw(operator_record(4)),
+        6 => builder.raw(operator_record(6)),
         7 => builder.raw(nonzero),
         8 => builder.point(0, [0; 3], 1),
         9 => (0..20).fold(builder, |b, _| b.sum()),

@@ -8,15 +8,31 @@ pub const FILE_MARK: [u8; 4] = [0x54, 0x52, 0x45, 0x45];
 /// The greatest size of a coordinate, in steps.
 pub const REACH: i32 = 2047;
 
-/// What a record stands for.
+/// What a record stands for, numbered by its byte 0. Of the last two values an
+/// operator takes the earlier and the later one.
 #[derive(Clone, Copy, Debug, PartialEq, Eq)]
 pub enum Kind {
     /// A soft point.
-    Point,
-    /// The sum of the last two values.
-    Sum,
-    /// The greater of the last two values.
-    Greater,
+    Point = 1,
+    /// The sum of the two.
+    Sum = 2,
+    /// The greater of the two.
+    Greater = 3,
+    /// The lesser of the two.
+    Lesser = 4,
+    /// The earlier one with the later one removed.
+    Cut = 5,
+}
+
+/// The operators.
+pub const OPERATORS: [Kind; 4] = [Kind::Sum, Kind::Greater, Kind::Lesser, Kind::Cut];
+
+impl Kind {
+    /// The kind that the byte stands for, or question 6's refusal.
+    fn of(byte: u8) -> Result<Kind, u32> {
+        let mut kinds = [Kind::Point].into_iter().chain(OPERATORS);
+        kinds.find(|&kind| kind as u8 == byte).ok_or(6)
+    }
 }
 
 /// A decoded record; an operator's numbers are 0.
@@ -93,15 +109,10 @@ fn split(file: &[u8]) -> Result<(&[u8], u16), u32> {
 
 /// Questions 6 to 8 on one record of 12 bytes.
 fn decode(record: &[u8]) -> Result<Node, u32> {
-    let kind = match record[0] {
-        1 => Kind::Point,
-        2 => Kind::Sum,
-        3 => Kind::Greater,
-        _ => return Err(6),
-    };
+    let kind = Kind::of(record[0])?;
     let zeros = match kind {
         Kind::Point => &record[1..2],
-        Kind::Sum | Kind::Greater => &record[1..RECORD],
+        _ => &record[1..RECORD],
     };
     if zeros.iter().any(|&byte| byte != 0) {
         return Err(7);
@@ -133,8 +144,8 @@ fn hold(node: &Node, held: u32) -> Result<u32, u32> {
     match node.kind {
         Kind::Point if held < 64 => Ok(held + 1),
         Kind::Point => Err(10),
-        Kind::Sum | Kind::Greater if held >= 2 => Ok(held - 1),
-        Kind::Sum | Kind::Greater => Err(9),
+        _ if held >= 2 => Ok(held - 1),
+        _ => Err(9),
     }
 }
 
@@ -182,22 +193,36 @@ impl FileBuilder {
         self.raw(point_record(r, centre, w))
     }
 
+    /// Adds an operator.
+    pub fn operator(self, kind: Kind) -> FileBuilder {
+        self.raw(operator_record(kind as u8))
+    }
+
     /// Adds a sum.
     pub fn sum(self) -> FileBuilder {
-        self.raw(operator_record(2))
+        self.operator(Kind::Sum)
     }
 
     /// Adds a greater.
     pub fn greater(self) -> FileBuilder {
-        self.raw(operator_record(3))
+        self.operator(Kind::Greater)
+    }
+
+    /// Adds a lesser.
+    pub fn lesser(self) -> FileBuilder {
+        self.operator(Kind::Lesser)
+    }
+
+    /// Adds a cut.
+    pub fn cut(self) -> FileBuilder {
+        self.operator(Kind::Cut)
     }
 
     /// Adds a node.
     pub fn node(self, node: &Node) -> FileBuilder {
         match node.kind {
             Kind::Point => self.point(node.r, [node.x, node.y, node.z], node.w),
-            Kind::Sum => self.sum(),
-            Kind::Greater => self.greater(),
+            operator => self.operator(operator),
         }
     }
 

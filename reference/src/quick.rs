@@ -10,14 +10,14 @@ use crate::field::{
     nearest, q_high, q_range, start_of, tree_bounds, u_at, u_range, Bounds, Ray, SpanBounds,
 };
 use crate::fraction::Fraction;
-use crate::part::{Kind, Node};
+use crate::part::{Kind, Node, Part};
 use std::cmp::Ordering;
 
 /// Bounds of spans of whole ticks of one ray, with each point's nearest place
 /// kept. Span ends are worked out in checked `i64`; where that overflows the
 /// fractions serve.
 pub struct TickField {
-    nodes: Vec<Node>,
+    part: Part,
     ray: Ray,
     nearest: Vec<Option<Nearest>>,
 }
@@ -29,7 +29,7 @@ struct Nearest {
 }
 
 impl SpanBounds for TickField {
-    fn new(nodes: &[Node], ray: Ray) -> TickField {
+    fn new(part: &Part, ray: Ray) -> TickField {
         let keep = |node: &Node| {
             if node.kind != Kind::Point {
                 return None;
@@ -39,14 +39,14 @@ impl SpanBounds for TickField {
             Some(Nearest { s, q_high })
         };
         TickField {
-            nodes: nodes.to_vec(),
+            part: part.clone(),
             ray,
-            nearest: nodes.iter().map(keep).collect(),
+            nearest: part.nodes.iter().map(keep).collect(),
         }
     }
 
     fn bounds(&self, first: u32, after: u32) -> Option<Bounds> {
-        tree_bounds(&self.nodes, |index, point| {
+        tree_bounds(&self.part, |index, point| {
             let quick = self.quick_range(index, point, first, after);
             quick.or_else(|| self.slow_range(point, first, after))
         })

@@ -8,7 +8,7 @@ use reference::field::{
 };
 use reference::fraction::Fraction;
 use reference::generate::{self, Shape, SplitMix64, STYLES};
-use reference::part::{read, FileBuilder, Kind, Node, Part};
+use reference::part::{read, FileBuilder, Kind, Node, Part, OPERATORS};
 use reference::quick::TickField;
 
 const SHAPES: [Shape; 3] = [
@@ -83,12 +83,12 @@ fn points(part: &Part) -> impl Iterator<Item = &Node> {
 fn bounds_enclose_the_field() {
     for_cases(51, 150, |random, part, ray| {
         let span = random_span(random);
-        let bounds = span_bounds(&part.nodes, ray, &span.0, &span.1).expect("a tree");
+        let bounds = span_bounds(part, ray, &span.0, &span.1).expect("a tree");
         let (low, high) = (in_units(bounds.low), in_units(bounds.high));
         let mut places: Vec<Fraction> = (0..=11).map(|k| within(&span, k, 11)).collect();
         places.extend(points(part).filter_map(|point| nearest(ray, point)));
         for s in places.iter().filter(|s| span.0 <= **s && **s <= span.1) {
-            let field = field_at(&part.nodes, &ray.place(s)).expect("a tree");
+            let field = field_at(part, &ray.place(s)).expect("a tree");
             assert!(low <= field && field <= high, "{s} {field} {bounds:?}");
         }
     });
@@ -99,15 +99,15 @@ fn place_bounds_are_those_of_a_span_of_one_place() {
     for_cases(52, 80, |random, part, ray| {
         let (s, _) = random_span(random);
         let place = ray.place(&s);
-        let at = place_bounds(&part.nodes, &place).expect("a tree");
-        assert_eq!(span_bounds(&part.nodes, ray, &s, &s), Some(at));
-        let field = field_at(&part.nodes, &place).expect("a tree");
+        let at = place_bounds(part, &place).expect("a tree");
+        assert_eq!(span_bounds(part, ray, &s, &s), Some(at));
+        let field = field_at(part, &place).expect("a tree");
         assert!(in_units(at.low) <= field && field <= in_units(at.high));
         let file = FileBuilder::from(part).build();
-        let whole = place_bounds(&part.nodes, &whole_place(ray.a));
+        let whole = place_bounds(part, &whole_place(ray.a));
         assert_eq!(bounds_at(&file, ray.a).ok(), whole);
         let still = Ray { a: ray.a, b: ray.a };
-        assert_eq!(tick_bounds(&part.nodes, &still, 0, 1024), whole);
+        assert_eq!(tick_bounds(part, &still, 0, 1024), whole);
     });
 }
 
@@ -118,8 +118,8 @@ fn nested_spans_have_no_looser_bounds() {
         let (k, n) = (random.between(0, 6), random.between(1, 13));
         let start = within(&outer, k.min(n), n);
         let end = within(&(start.clone(), outer.1.clone()), random.between(0, 7), 7);
-        let wide = span_bounds(&part.nodes, ray, &outer.0, &outer.1).expect("a tree");
-        let narrow = span_bounds(&part.nodes, ray, &start, &end).expect("a tree");
+        let wide = span_bounds(part, ray, &outer.0, &outer.1).expect("a tree");
+        let narrow = span_bounds(part, ray, &start, &end).expect("a tree");
         assert!(wide.low <= narrow.low && narrow.high <= wide.high);
     });
 }
@@ -131,8 +131,11 @@ fn halves_together_bound_the_whole() {
         let to = random.between(i64::from(from) + 2, 1024) as u32;
         let middle = (from + to) / 2;
         for point in points(part) {
-            let nodes = [Node { w: 1, ..*point }];
-            let bounds = |a, b| tick_bounds(&nodes, ray, a, b).expect("a tree");
+            let single = Part {
+                iso: 1,
+                nodes: vec![Node { w: 1, ..*point }],
+            };
+            let bounds = |a, b| tick_bounds(&single, ray, a, b).expect("a tree");
             let (left, right) = (bounds(from, middle), bounds(middle, to));
             let whole = bounds(from, to);
             assert_eq!(whole.low, left.low.min(right.low));
@@ -186,16 +189,16 @@ fn the_nearest_place_is_a_centre_of_symmetry() {
 #[test]
 fn quick_bounds_equal_the_fractions() {
     for_cases(57, 60, |random, part, ray| {
-        let field = TickField::new(&part.nodes, *ray);
+        let field = TickField::new(part, *ray);
         for _ in 0..40 {
             let first = random.between(0, 1023) as u32;
             let longest = random.pick(&[1, 3, 64, 1024]);
             let after = random.between(1, longest) as u32 + first;
             let after = after.min(1024);
-            let slow = tick_bounds(&part.nodes, ray, first, after);
+            let slow = tick_bounds(part, ray, first, after);
             assert_eq!(field.bounds(first, after), slow);
         }
-        let whole = tick_bounds(&part.nodes, ray, 0, 1024);
+        let whole = tick_bounds(part, ray, 0, 1024);
         assert_eq!(field.bounds(0, 1024), whole);
     });
 }
@@ -209,9 +212,9 @@ fn quick_bounds_fall_back_to_the_fractions() {
         a: [i32::MIN, -9, i32::MAX],
         b: [i32::MAX, 11, i32::MIN],
     };
-    let field = TickField::new(&part.nodes, ray);
+    let field = TickField::new(&part, ray);
     for (first, after) in [(0, 1), (0, 1024), (511, 512), (512, 513), (3, 900)] {
-        let slow = tick_bounds(&part.nodes, &ray, first, after);
+        let slow = tick_bounds(&part, &ray, first, after);
         assert!(slow.is_some());
         assert_eq!(field.bounds(first, after), slow);
     }
@@ -227,9 +230,9 @@ fn a_point_between_the_ends() {
         b: [2000, 0, 0],
     };
     let (low, high) = (0, 7 << 32);
-    let whole = tick_bounds(&part.nodes, &ray, 0, 1024);
+    let whole = tick_bounds(&part, &ray, 0, 1024);
     assert_eq!(whole, Some(Bounds { low, high }));
-    let tick = tick_bounds(&part.nodes, &ray, 512, 513);
+    let tick = tick_bounds(&part, &ray, 512, 513);
     assert_eq!(tick, Some(Bounds { low, high }));
 }
 
@@ -249,15 +252,15 @@ fn exact_values() {
         b: [6, 3, 0],
     };
     // At (0, 3, 0): 625 (16/25)^2 and, with d^2 10, -625 (15/25)^2 against 0.
-    let field = field_on_ray(&part.nodes, &ray, 0, 9);
+    let field = field_on_ray(&part, &ray, 0, 9);
     assert_eq!(field, Some(Fraction::from(256)));
     // At (1, 3, 0): d^2 is 10, 5 and 110.
-    let field = field_on_ray(&part.nodes, &ray, 1, 6);
+    let field = field_on_ray(&part, &ray, 1, 6);
     assert_eq!(field, Some(Fraction::from(225)));
     // At (1/2, 3, 0): u is 1 - 37/100.
-    let field = field_on_ray(&part.nodes, &ray, 3, 36);
+    let field = field_on_ray(&part, &ray, 3, 36);
     assert_eq!(field, Some(fraction(625 * 63 * 63, 10_000)));
-    assert_eq!(field_on_ray(&part.nodes, &ray, 1, 0), None);
+    assert_eq!(field_on_ray(&part, &ray, 1, 0), None);
     // S is 6: 625 (6/1280 + 1/16384) twice and 100 (6/2560 + 1/16384).
     let expected = &fraction(2 * 625 * 6, 1280) + &fraction(2 * 625, 16384);
     let expected = &expected + &(&fraction(600, 2560) + &fraction(100, 16384));
@@ -267,18 +270,22 @@ fn exact_values() {
 #[test]
 fn no_tree_has_no_value() {
     let place = whole_place([0; 3]);
-    assert_eq!(field_at(&[], &place), None);
+    let part = |nodes: &[Node]| Part {
+        iso: 1,
+        nodes: nodes.to_vec(),
+    };
+    assert_eq!(field_at(&part(&[]), &place), None);
     let file = FileBuilder::new(1).point(5, [0; 3], 1).build();
     let point = read(&file).expect("accepted").nodes[0];
-    assert_eq!(field_at(&[point, point], &place), None);
-    let sum = Node {
-        kind: Kind::Sum,
-        ..point
-    };
-    assert_eq!(place_bounds(&[point, sum], &place), None);
+    assert_eq!(field_at(&part(&[point, point]), &place), None);
     let ray = Ray {
         a: [0; 3],
         b: [1, 0, 0],
     };
-    assert_eq!(TickField::new(&[sum], ray).bounds(0, 1), None);
+    for kind in OPERATORS {
+        let operator = Node { kind, ..point };
+        assert_eq!(place_bounds(&part(&[point, operator]), &place), None);
+        let field = TickField::new(&part(&[operator]), ray);
+        assert_eq!(field.bounds(0, 1), None);
+    }
 }

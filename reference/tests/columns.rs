@@ -11,8 +11,8 @@ mod worked;
 use plain::plain_column;
 use reference::cast::{self, Column, FullCast, COLUMN_BYTES, TICKS};
 use reference::field::Ray;
-use reference::generate::{self, cancelling, fault, lattice, part_of_form, strut};
-use reference::generate::{Shape, SplitMix64, FORMS, STYLES};
+use reference::generate::{self, cancelling_or_bored, fault, lattice, part_of_form, strut};
+use reference::generate::{Shape, SplitMix64, FORMS, OVERLAPPING, STYLES};
 use reference::part::{check, FileBuilder, Part};
 use samples::sampled_column;
 use worked::{at_y, file_k, AXIS};
@@ -33,7 +33,8 @@ fn request(random: &mut SplitMix64, part: &Part) -> (Vec<u8>, Ray) {
     (FileBuilder::from(part).build(), ray)
 }
 
-/// Part `i` of a series: of the four forms in turn, then one that cancels.
+/// Part `i` of a series: of the four forms in turn, then one that nearly
+/// cancels or is bored.
 fn draw(random: &mut SplitMix64, i: usize) -> Part {
     let shape = Shape {
         points: (1, 70),
@@ -42,9 +43,10 @@ fn draw(random: &mut SplitMix64, i: usize) -> Part {
         weight: (-4096, 4096),
         iso: (1, 4096),
     };
+    let shape = random.pick(&[shape, OVERLAPPING]);
     match FORMS.get(i % 5) {
         Some(&form) => part_of_form(random, &shape, form),
-        None => cancelling(random),
+        None => cancelling_or_bored(random),
     }
 }
 
@@ -141,7 +143,7 @@ fn samples_where_a_tick_is_decided() {
     }
     println!("{ticks:?}");
     assert!(ticks.empty > 100_000 && ticks.inside > 100_000, "{ticks:?}");
-    assert!(ticks.crossing.iter().all(|&n| n > 5_000), "{ticks:?}");
+    assert!(ticks.crossing.iter().all(|&n| n > 3_000), "{ticks:?}");
 }
 
 /// Columns across a strut that stands where one tick ends and the next

@@ -4,7 +4,7 @@
 use reference::cast::{column, first_hit, full_cast, FirstHit, FullCast};
 use reference::field::{field_at, nearest, tolerance, Ray};
 use reference::fraction::Fraction;
-use reference::generate::{self, Shape, SplitMix64, Style, STYLES};
+use reference::generate::{self, Shape, SplitMix64, Style, OVERLAPPING, STYLES};
 use reference::part::{FileBuilder, Kind, Node, Part};
 
 /// One ray of one part with its marks.
@@ -45,7 +45,7 @@ impl Case {
     /// Checks the mark of tick t at the place s, which the tick holds.
     fn check_place(&mut self, t: u32, s: &Fraction) {
         assert!(fraction(t.into(), 1024) <= *s && *s <= fraction((t + 1).into(), 1024));
-        let field = field_at(&self.part.nodes, &self.ray.place(s)).expect("a tree");
+        let field = field_at(&self.part, &self.ray.place(s)).expect("a tree");
         let iso = Fraction::from(i64::from(self.part.iso));
         let mark = self.marks[t as usize];
         let right = match mark {
@@ -123,11 +123,34 @@ impl Case {
     }
 }
 
-/// Runs `count` rays of each style on parts of one shape; the places seen
-/// with each mark.
-fn run(seed: u64, shape: &Shape, count: usize, stride: u32) -> [u64; 3] {
+/// The places seen with each mark: in all parts, in those with a lesser and in
+/// those with a cut.
+#[derive(Debug, Default)]
+struct Seen([[u64; 3]; 3]);
+
+impl Seen {
+    fn add(&mut self, case: &Case) {
+        let has = |kind| case.part.nodes.iter().any(|node| node.kind == kind);
+        let counts = [true, has(Kind::Lesser), has(Kind::Cut)];
+        for (places, _) in self.0.iter_mut().zip(counts).filter(|(_, c)| *c) {
+            *places = [0, 1, 2].map(|mark| places[mark] + case.seen[mark]);
+        }
+    }
+
+    /// Each mark has more places than these: in all parts, and in those with a
+    /// lesser as in those with a cut.
+    fn assert_more(&self, in_all: u64, with_either: u64) {
+        let least = [in_all, with_either, with_either];
+        for (places, least) in self.0.iter().zip(least) {
+            assert!(places.iter().all(|&n| n > least), "{self:?}");
+        }
+    }
+}
+
+/// Runs `count` rays of each style on parts of one shape.
+fn run(seed: u64, shape: &Shape, count: usize, stride: u32) -> Seen {
     let mut random = SplitMix64::new(seed);
-    let mut seen = [0; 3];
+    let mut seen = Seen::default();
     for style in STYLES {
         for _ in 0..count {
             let part = generate::part(&mut random, shape);
@@ -136,9 +159,7 @@ fn run(seed: u64, shape: &Shape, count: usize, stride: u32) -> [u64; 3] {
             let odd = [7 * 1024 + 1, 7 * 1024, random.between(1, 9999).into()];
             let mut case = Case::new(part, ray, budget);
             case.check_all(stride, &odd);
-            for (total, more) in seen.iter_mut().zip(case.seen) {
-                *total += more;
-            }
+            seen.add(&case);
         }
     }
     seen
@@ -153,8 +174,12 @@ fn few_points() {
         weight: (-6, 30),
         iso: (1, 6),
     };
-    let seen = run(31, &shape, 40, 1);
-    assert!(seen.iter().all(|&n| n > 10_000), "{seen:?}");
+    run(31, &shape, 40, 1).assert_more(1_500, 80);
+}
+
+#[test]
+fn overlapping_points() {
+    run(39, &OVERLAPPING, 250, 32).assert_more(8_000, 1_500);
 }
 
 #[test]
@@ -166,8 +191,7 @@ fn small_radii() {
         weight: (-9, 40),
         iso: (1, 5),
     };
-    let seen = run(32, &shape, 60, 1);
-    assert!(seen.iter().all(|&n| n > 2_000), "{seen:?}");
+    run(32, &shape, 60, 1).assert_more(1_500, 100);
 }
 
 #[test]
@@ -179,8 +203,7 @@ fn large_weights() {
         weight: (-4096, 4096),
         iso: (1, 900),
     };
-    let seen = run(33, &shape, 60, 1);
-    assert!(seen.iter().all(|&n| n > 1_000), "{seen:?}");
+    run(33, &shape, 60, 1).assert_more(500, 50);
 }
 
 #[test]
@@ -192,8 +215,7 @@ fn deep_trees() {
         weight: (-5, 12),
         iso: (1, 5),
     };
-    let seen = run(34, &shape, 20, 4);
-    assert!(seen.iter().all(|&n| n > 500), "{seen:?}");
+    run(34, &shape, 20, 4).assert_more(500, 200);
 }
 
 #[test]
@@ -215,20 +237,30 @@ fn single_points_near_the_surface() {
     }
 }
 
-#[test]
-fn cancelling_points() {
-    let mut random = SplitMix64::new(37);
-    let mut seen = [0; 3];
-    for i in 0..120 {
-        let part = generate::cancelling(&mut random);
+/// Runs a ray on each of `count` parts.
+fn run_drawn(seed: u64, count: usize, part: fn(&mut SplitMix64) -> Part) -> Seen {
+    let mut random = SplitMix64::new(seed);
+    let mut seen = Seen::default();
+    for i in 0..count {
+        let part = part(&mut random);
         let ray = generate::ray(&mut random, &part, STYLES[i % STYLES.len()]);
         let mut case = Case::new(part, ray, 2047);
         case.check_all(3, &[7 * 1024 + 1]);
-        for (total, more) in seen.iter_mut().zip(case.seen) {
-            *total += more;
-        }
+        seen.add(&case);
     }
-    assert!(seen.iter().all(|&n| n > 5_000), "{seen:?}");
+    seen
+}
+
+#[test]
+fn cancelling_points() {
+    let Seen([all, _, cut]) = run_drawn(37, 120, generate::cancelling);
+    assert!(all.iter().all(|&n| n > 5_000), "{all:?}");
+    assert!(cut.iter().all(|&n| n > 1_000), "{cut:?}");
+}
+
+#[test]
+fn bored_parts() {
+    run_drawn(38, 120, generate::bored).assert_more(1_500, 1_500);
 }
 
 /// A first hit and a column claim the same of the field as the full cast.

@@ -9,7 +9,7 @@ mod requests;
 
 use reference::cast::{self, Column, FirstHit, FullCast, Mark};
 use reference::field::{Bounds, Ray};
-use reference::generate::{self, cancelling, part_of_form};
+use reference::generate::{self, cancelling_or_bored, part_of_form};
 use reference::generate::{Form, SplitMix64, Style, FORMS};
 use reference::part::{FileBuilder, Part};
 use requests::{file, place, ray, GROUPS};
@@ -186,7 +186,9 @@ fn all_kinds() {
         let part = |random: &mut SplitMix64, i| part_of_form(random, &shape, FORMS[i % 4]);
         compare_all(&mut random, &mut coverage, scenes, part);
     }
-    compare_all(&mut random, &mut coverage, 4_000, |r, _| cancelling(r));
+    compare_all(&mut random, &mut coverage, 4_000, |r, _| {
+        cancelling_or_bored(r)
+    });
     println!("{coverage:#?}");
     coverage.assert_populated();
 }
@@ -195,7 +197,7 @@ fn all_kinds() {
 fn cut_files() {
     let mut random = SplitMix64::new(102);
     let mut coverage = Coverage::default();
-    for (_, shape) in &GROUPS[..3] {
+    for (_, shape) in &GROUPS[..4] {
         let part = part_of_form(&mut random, shape, Form::Mixed);
         let file = FileBuilder::from(&part).leading(&[1; 30]).build();
         let ray = generate::ray(&mut random, &part, Style::Centre);

@@ -150,7 +150,7 @@ fn the_record_and_the_place_are_the_references() {
     let mut refused = [[0; 2]; 3];
     let mut views = [0; 5];
     for i in 0..16_000 {
-        let (_, shape) = random.pick(&GROUPS[..5]);
+        let (_, shape) = random.pick(&GROUPS[..6]);
         let form = random.pick(&FORMS);
         let part = part_of_form(&mut random, &shape, form);
         let file = file(&mut random, &part);

@@ -3,7 +3,8 @@
 use reference::cast::{bounds_at, column, first_hit, full_cast, Column, FirstHit, FullCast};
 use reference::field::Ray;
 use reference::generate::fault;
-use reference::part::{check, operator_record, point_record, read, FileBuilder, Kind, RECORD};
+use reference::part::{check, operator_record, point_record, read, FileBuilder, Kind};
+use reference::part::{OPERATORS, RECORD};
 use reference::view::{viewer_first_hit, ViewRay, ViewerHit};
 
 const RAY: Ray = Ray {
@@ -173,7 +174,7 @@ fn question_6_kind() {
         record[0] = kind;
         let expected = match kind {
             1 => Ok((1, 1)),
-            2 | 3 => Err(7),
+            2..=5 => Err(7),
             _ => Err(6),
         };
         assert_eq!(check(&FileBuilder::new(1).raw(record).build()), expected);
@@ -183,7 +184,7 @@ fn question_6_kind() {
             .build();
         let expected = match kind {
             1 => Err(8),
-            2 | 3 => Ok((3, 1)),
+            2..=5 => Ok((3, 1)),
             _ => Err(6),
         };
         assert_eq!(check(&joined), expected);
@@ -197,10 +198,10 @@ fn question_7_zero_bytes() {
         record[1] = value;
         assert_eq!(check(&FileBuilder::new(1).raw(record).build()), Err(7));
     }
-    for kind in [2, 3] {
+    for kind in OPERATORS {
         for position in 1..RECORD {
             for value in [1, 2, 128, 255] {
-                let mut record = operator_record(kind);
+                let mut record = operator_record(kind as u8);
                 record[position] = value;
                 let file = one_point().point(1, [0; 3], 1).raw(record).build();
                 assert_refused(&file, 7);
@@ -247,8 +248,8 @@ fn question_8_coordinates() {
 
 #[test]
 fn question_9_values_for_an_operator() {
-    for kind in [2, 3] {
-        let operator = operator_record(kind);
+    for kind in OPERATORS {
+        let operator = operator_record(kind as u8);
         assert_refused(&FileBuilder::new(1).raw(operator).build(), 9);
         assert_refused(&one_point().raw(operator).build(), 9);
         assert_refused(&two_points().raw(operator).build(), 9);
@@ -337,8 +338,8 @@ fn pairs_of_faults_in_one_record() {
     assert_refused(&full.clone().point(0, [0; 3], 1).build(), 8);
     assert_refused(&full.clone().point(1, [0; 3], 4097).build(), 8);
     assert_refused(&full.point(1, [0; 3], 1).build(), 10);
-    for kind in [2, 3] {
-        let mut operator = operator_record(kind);
+    for kind in OPERATORS {
+        let mut operator = operator_record(kind as u8);
         operator[11] = 1;
         assert_refused(&FileBuilder::new(1).raw(operator).build(), 7);
         assert_refused(&one_point().raw(operator).build(), 7);

@@ -5,7 +5,7 @@ mod common;
 
 use common::printed;
 use reference::generate::{self, mutate, random_bytes, random_records, Shape, SplitMix64};
-use reference::part::{read, FileBuilder, Kind, Node};
+use reference::part::{read, FileBuilder, Node};
 
 /// What it should print.
 fn expected(file: &[u8]) -> String {
@@ -19,11 +19,7 @@ fn expected(file: &[u8]) -> String {
 }
 
 fn line(node: &Node) -> String {
-    let kind = match node.kind {
-        Kind::Point => 1,
-        Kind::Sum => 2,
-        Kind::Greater => 3,
-    };
+    let kind = node.kind as u8;
     let Node { r, x, y, z, w, .. } = node;
     format!("{kind} {r} {x} {y} {z} {w}\n")
 }

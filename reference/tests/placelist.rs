@@ -111,7 +111,7 @@ fn refusals() {
         (point(512, 4).version(9), 3),
         (point(512, 4).distance(25), 4),
         (point(512, 4).iso(0), 5),
-        (FileBuilder::new(1).raw([4; 12]), 6),
+        (FileBuilder::new(1).raw([6; 12]), 6),
         (FileBuilder::new(1).raw([2; 12]), 7),
         (point(1025, 4), 8),
         (FileBuilder::new(1).sum(), 9),

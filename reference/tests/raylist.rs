@@ -6,7 +6,7 @@ mod worked;
 
 use common::printed;
 use reference::field::Ray;
-use reference::generate::{self, cancelling, fault, mutate, part_of_form};
+use reference::generate::{self, cancelling_or_bored, fault, mutate, part_of_form};
 use reference::generate::{Shape, SplitMix64, FORMS, STYLES};
 use reference::lister::{input, list};
 use reference::part::FileBuilder;
@@ -120,7 +120,7 @@ fn generated_and_damaged() {
     let (mut refused, mut spent) = (0, 0);
     for i in 0..1_000 {
         let part = match i % 5 {
-            4 => cancelling(&mut random),
+            4 => cancelling_or_bored(&mut random),
             form => part_of_form(&mut random, &shape, FORMS[form]),
         };
         let ray = generate::ray(&mut random, &part, STYLES[i % 6]);

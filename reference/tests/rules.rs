@@ -129,7 +129,7 @@ impl Case {
     /// The probes of a first hit: all spans that begin before the hit's tick
     /// and those that hold it, down to the one that settles it.
     fn hit_probes(&self, first: u32, after: u32, tick: u32) -> u32 {
-        let bounds = tick_bounds(&self.part.nodes, &self.ray, first, after).expect("a tree");
+        let bounds = tick_bounds(&self.part, &self.ray, first, after).expect("a tree");
         let settled = judge(bounds, self.part.iso) != Mark::Crossing || after - first == 1;
         if first > tick {
             return 0;

@@ -60,7 +60,7 @@ enum Call {
 
 impl Request {
     fn new(random: &mut SplitMix64) -> Request {
-        let (_, shape) = random.pick(&GROUPS[..5]);
+        let (_, shape) = random.pick(&GROUPS[..6]);
         let form = random.pick(&FORMS);
         let part = part_of_form(random, &shape, form);
         let file = file(random, &part);

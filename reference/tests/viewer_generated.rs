@@ -12,7 +12,7 @@ mod requests;
 use counted::{in_millimetres, view};
 use floats::changed;
 use reference::cast::Mark;
-use reference::generate::{cancelling, lattice, part_of_form, SplitMix64, FORMS};
+use reference::generate::{cancelling_or_bored, lattice, part_of_form, SplitMix64, FORMS};
 use reference::part::{read, FileBuilder, Part};
 use reference::totals::Totals;
 use reference::view::{viewer_first_hit, ViewRay, ViewerHit};
@@ -134,7 +134,7 @@ fn all_kinds() {
         }
     }
     for _ in 0..4_000 {
-        let part = cancelling(&mut run.random);
+        let part = cancelling_or_bored(&mut run.random);
         run.compare(&part);
     }
     for part in worked_parts() {

@@ -1,7 +1,7 @@
 //! Damaged part files.
 
 use reference::generate::{fault, mutate, random_bytes, random_records, SplitMix64};
-use reference::part::{FileBuilder, Part, RECORD};
+use reference::part::{FileBuilder, Part, OPERATORS, RECORD};
 
 /// The most bytes of a part file.
 const MOST: usize = 65_536;
@@ -44,7 +44,7 @@ fn flip(random: &mut SplitMix64, file: &mut [u8]) {
 }
 
 /// A byte of one point's radius, centre or weight is another, the higher byte of
-/// a number by little; or an operator is the other one.
+/// a number by little; or an operator is another one.
 fn overwrite_record(random: &mut SplitMix64, file: &mut [u8]) {
     let records = (file.len() / RECORD - 1) as i64;
     let start = file.len() - RECORD * random.between(2, records + 1) as usize;
@@ -53,8 +53,15 @@ fn overwrite_record(random: &mut SplitMix64, file: &mut [u8]) {
     match (record[0], at % 2) {
         (1, 0) => record[at] = random.next_u64() as u8,
         (1, _) => record[at] ^= random.between(1, 3) as u8,
-        _ => record[0] ^= 1,
+        (kind, _) => record[0] = another(random, kind),
     }
+}
+
+/// Another operator than the one of this kind.
+fn another(random: &mut SplitMix64, kind: u8) -> u8 {
+    let all = OPERATORS.map(|operator| operator as u8);
+    let others: Vec<u8> = all.into_iter().filter(|&other| other != kind).collect();
+    random.pick(&others)
 }
 
 /// Two bytes of the trailer, or two times two, are others, often limits.

@@ -6,7 +6,7 @@ use crate::floats::changed;
 use crate::request::{casting, is_counted, need, six};
 use crate::request::{Request, BOUNDS, CHECK, COLUMN, COUNTED, FIRST_HIT, FULL_CAST, VIEW};
 use crate::requests;
-use reference::generate::{cancelling, part_of_form, SplitMix64, FORMS};
+use reference::generate::{cancelling_or_bored, part_of_form, SplitMix64, FORMS};
 use reference::part::{FileBuilder, Part};
 use reference::totals::Totals;
 
@@ -55,7 +55,7 @@ pub fn drawn(random: &mut SplitMix64, on_damaged: bool) -> Request {
 }
 
 /// A part of one of the groups, each as often as its number says, or one that
-/// nearly cancels, as often as the first.
+/// nearly cancels or is bored, as often as the first.
 fn part(random: &mut SplitMix64) -> Part {
     let groups = requests::GROUPS.map(|(scenes, shape)| (scenes as i64, shape));
     let all: i64 = groups.iter().map(|(scenes, _)| scenes).sum();
@@ -69,7 +69,7 @@ fn part(random: &mut SplitMix64) -> Part {
             let form = random.pick(&FORMS);
             part_of_form(random, shape, form)
         }
-        None => cancelling(random),
+        None => cancelling_or_bored(random),
     }
 }
 

@@ -5,7 +5,8 @@ use crate::drawn::totals;
 use crate::request::{casting, is_counted, need, six};
 use crate::request::{Request, BOUNDS, CALLS, COLUMN, FULL_CAST, VIEW};
 use reference::generate::SplitMix64;
-use reference::part::{operator_record, point_record, FileBuilder, FILE_MARK, RECORD};
+use reference::part::{operator_record, point_record, FileBuilder};
+use reference::part::{FILE_MARK, OPERATORS, RECORD};
 
 type Files = Vec<[Vec<u8>; 2]>;
 
@@ -155,10 +156,10 @@ fn kinds() -> Files {
         let two = FileBuilder::new(3).raw(wide()).raw(narrow());
         two.raw(operator_record(kind)).build()
     };
-    vec![[1, 0].map(of_point), [3, 4].map(of_operator)]
+    vec![[1, 0].map(of_point), [5, 6].map(of_operator)]
 }
 
-/// Question 7: a point's byte 1, and bytes 1 to 11 of both operators.
+/// Question 7: a point's byte 1, and bytes 1 to 11 of each operator.
 fn zero_bytes() -> Files {
     let of_point = |byte| {
         let mut record = wide();
@@ -166,10 +167,10 @@ fn zero_bytes() -> Files {
         FileBuilder::new(3).raw(record).build()
     };
     let mut files = vec![[0, 1].map(of_point)];
-    for kind in [2, 3] {
+    for kind in OPERATORS {
         for at in 1..RECORD {
             files.push([0, 1].map(|byte| {
-                let mut record = operator_record(kind);
+                let mut record = operator_record(kind as u8);
                 record[at] = byte;
                 let two = FileBuilder::new(3).raw(wide()).raw(narrow());
                 two.raw(record).build()
@@ -200,7 +201,7 @@ fn points() -> Files {
     files
 }
 
-/// Questions 9 to 11: an operator with two values held and with one, a point
+/// Questions 9 to 11: each operator with two values held and with one, a point
 /// with 63 and with 64, one value at the end and two.
 fn held() -> Files {
     let one = FileBuilder::new(3).raw(wide());
@@ -209,14 +210,12 @@ fn held() -> Files {
         (1..points).fold(held, |b, _| b.greater()).build()
     };
     let two = one.clone().raw(narrow());
-    let too_early = [one.clone().sum(), one.clone().greater()];
-    let [sum, greater] = too_early.map(|builder| builder.raw(narrow()).build());
-    vec![
-        [two.clone().sum().build(), sum],
-        [two.clone().greater().build(), greater],
-        [deep(64), deep(65)],
-        [one.build(), two.build()],
-    ]
+    let joined = |kind| {
+        let too_early = one.clone().operator(kind).raw(narrow());
+        [two.clone().operator(kind), too_early].map(|builder| builder.build())
+    };
+    let held = [[deep(64), deep(65)], [one.build(), two.build()]];
+    OPERATORS.map(joined).into_iter().chain(held).collect()
 }
 
 /// The ray as the call is handed it; a place is its A.

@@ -69,7 +69,7 @@ impl Look {
         }
     }
 
-    /// Every record, faulty or not. Of other kinds than 1 to 3, 0 counts as a
+    /// Every record, faulty or not. Of other kinds than 1 to 5, 0 counts as a
     /// point and the rest as operators.
     fn records(&mut self, records: &[u8]) {
         let mut held = 0;

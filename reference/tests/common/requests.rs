@@ -2,7 +2,7 @@
 
 use reference::field::Ray;
 use reference::generate::{self, fault, mutate, random_bytes, random_records};
-use reference::generate::{Shape, SplitMix64, STYLES};
+use reference::generate::{Shape, SplitMix64, OVERLAPPING, STYLES};
 use reference::part::{FileBuilder, Kind, Node, Part, REACH};
 
 /// The file of a part; a damaged one, or other bytes, once in five.
@@ -72,7 +72,7 @@ pub fn room(random: &mut SplitMix64, need: usize) -> (usize, usize) {
 }
 
 /// How many parts, and their shape.
-pub const GROUPS: [(usize, Shape); 8] = [
+pub const GROUPS: [(usize, Shape); 9] = [
     // single points
     (
         4_000,
@@ -86,7 +86,7 @@ pub const GROUPS: [(usize, Shape); 8] = [
     ),
     // a few points of either sign
     (
-        5_000,
+        3_000,
         Shape {
             points: (2, 6),
             reach: 400,
@@ -95,6 +95,7 @@ pub const GROUPS: [(usize, Shape); 8] = [
             iso: (1, 8),
         },
     ),
+    (2_000, OVERLAPPING),
     // a few small points near each other
     (
         2_000,

@@ -7,7 +7,7 @@ use reference::view::ViewerHit;
 use std::collections::BTreeMap;
 
 /// Classes, and how often each must have come at least.
-const CLASSES: [(&str, &[&str], u32); 13] = [
+const CLASSES: [(&str, &[&str], u32); 14] = [
     ("check", &["accepted"], 3_000),
     ("place", &["accepted"], 3_000),
     ("full cast", &["complete", "spent"], 800),
@@ -20,8 +20,25 @@ const CLASSES: [(&str, &[&str], u32); 13] = [
     ("budget", &["0", "1", "2", "3", "4", "5", "6"], 1_500),
     (
         "part",
-        &["one point", "several points", "sum", "greater"],
+        &[
+            "one point",
+            "several points",
+            "sum",
+            "greater",
+            "lesser",
+            "cut",
+        ],
         600,
+    ),
+    (
+        "part",
+        &[
+            "cut of a cut",
+            "cut by a cut",
+            "sum of a cut",
+            "lesser of a cut",
+        ],
+        100,
     ),
     ("part", &["negative weight"], 1_500),
     ("part", &["511 records"], 20),
@@ -61,6 +78,14 @@ fn probes_name(probes: u32) -> &'static str {
         20..=199 => "20 to 199",
         _ => "200 or more",
     }
+}
+
+/// Whether nodes of these kinds stand one after the other. The operand that
+/// stands right before an operator is its later one; an operator, a point and an
+/// operator are an earlier one, a later one and what joins them.
+fn in_a_row(part: &Part, kinds: &[Kind]) -> bool {
+    let same = |nodes: &[Node]| nodes.iter().map(|n| n.kind).eq(kinds.iter().copied());
+    part.nodes.windows(kinds.len()).any(same)
 }
 
 /// Counts by subject and class.
@@ -132,13 +157,25 @@ impl Coverage {
 
     /// The part of an accepted ray.
     pub fn part(&mut self, part: &Part) {
-        let any = |test: fn(&Node) -> bool| part.nodes.iter().any(test);
+        let negative = part.nodes.iter().any(|node| node.w < 0);
         let classes = [
             ("one point", part.nodes.len() == 1),
             ("several points", part.nodes.len() > 1),
-            ("negative weight", any(|node| node.w < 0)),
-            ("sum", any(|node| node.kind == Kind::Sum)),
-            ("greater", any(|node| node.kind == Kind::Greater)),
+            ("negative weight", negative),
+            ("sum", in_a_row(part, &[Kind::Sum])),
+            ("greater", in_a_row(part, &[Kind::Greater])),
+            ("lesser", in_a_row(part, &[Kind::Lesser])),
+            ("cut", in_a_row(part, &[Kind::Cut])),
+            (
+                "cut of a cut",
+                in_a_row(part, &[Kind::Cut, Kind::Point, Kind::Cut]),
+            ),
+            ("cut by a cut", in_a_row(part, &[Kind::Cut, Kind::Cut])),
+            ("sum of a cut", in_a_row(part, &[Kind::Cut, Kind::Sum])),
+            (
+                "lesser of a cut",
+                in_a_row(part, &[Kind::Cut, Kind::Lesser]),
+            ),
             ("511 records", part.nodes.len() == 511),
         ];
         for (class, _) in classes.iter().filter(|(_, holds)| *holds) {

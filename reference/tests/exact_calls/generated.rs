@@ -8,12 +8,13 @@ use crate::floats::changed;
 use crate::requests::{budget, file, ray, room, GROUPS};
 use reference::cast::accept;
 use reference::field::Ray;
-use reference::generate::{cancelling, part_of_form, SplitMix64, FORMS};
+use reference::generate::{cancelling_or_bored, part_of_form, SplitMix64, FORMS};
 use reference::part::Part;
 
-/// Scenes, a file and a ray each, of each of `GROUPS`, and of cancelling points.
-const SCENES: [usize; 8] = [1_000, 1_500, 800, 400, 200, 600, 150, 50];
-const CANCELLING: usize = 300;
+/// Scenes, a file and a ray each, of each of `GROUPS`, and of parts that nearly
+/// cancel or are bored.
+const SCENES: [usize; 9] = [800, 700, 900, 700, 400, 200, 600, 150, 50];
+const CANCELLING_OR_BORED: usize = 500;
 
 /// All requests of a host, eight for each scene, and what they covered.
 struct Run {
@@ -101,7 +102,7 @@ fn generated_requests() {
             part_of_form(random, &shape, FORMS[i % 4])
         });
     }
-    run.scenes(CANCELLING, |random, _| cancelling(random));
+    run.scenes(CANCELLING_OR_BORED, |random, _| cancelling_or_bored(random));
     run.coverage.print();
     let casts = ["full cast", "first hit", "column", "viewer"];
     assert_eq!(run.coverage.requests(&casts), 30_000);
