@@ -86,7 +86,8 @@ pub fn parts() -> Vec<Load> {
         let part = read(&file).unwrap_or_else(|number| panic!("{name}: refused {number}"));
         Load::new(name.to_string(), &part, raster(&part))
     };
-    ["pad.part", "core.part", "k.part"].map(load).into()
+    let names = ["pad.part", "core.part", "core-cut.part", "core-sum.part", "k.part"];
+    names.map(load).into()
 }
 
 /// Lattices of 1, 2, 4 and so on up to 256 points.

@@ -61,7 +61,7 @@ fn print_parts() {
         "Time / Rust",
         "Time / samples",
     ];
-    print_head("Three parts", &columns);
+    print_head("Five parts", &columns);
     loads::parts().iter().for_each(print_part);
 }
 
