@@ -128,12 +128,11 @@
  *
  *   A probe is one working out of the field's bounds over a stretch of ticks.
  *   The time of a cast goes by its probes times the part's records. The most
- *   are 2,047 probes of 511 records. A full cast of that size, of 256 points, a
- *   sum and 254 cuts that leave every tick undecided, takes 62 million
- *   instructions by callgrind, which is 59 for a probe and record; no cast tried
- *   took more. With 255 sums it takes 58 million. A column takes the same. A
- *   smaller budget makes fewer probes and so bounds a call's time.
- *   docs/BENCHMARKS.md has the figures of other parts.
+ *   are 2,047 probes of 511 records. A column of that size, of 256 points, 3 sums
+ *   and 252 cuts that leave every tick undecided, takes 62 million instructions
+ *   by callgrind, which is 59 for a probe and record; no call tried took more.
+ *   With 255 sums it takes 58 million. A smaller budget makes fewer probes and
+ *   so bounds a call's time. docs/BENCHMARKS.md has the figures of other parts.
  *
  * Platform
  *

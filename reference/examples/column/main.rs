@@ -113,5 +113,6 @@ fn main() {
     print_parts();
     print_growth("Growth with points", &loads::lattices());
     print_growth("Growth with probes", &loads::cancelled());
+    print_growth("Each operator", &loads::operators());
     print_struts();
 }
