@@ -1,7 +1,7 @@
 /* A tour of fenalukki.h: makes a part of three points in memory and hands it to
- * each of the ten entries, then has each refusal number answered once. What it
- * prints is in tour.out. Lengths are in steps of 1/64 mm but for the viewer's,
- * which are in millimetres. */
+ * each of the ten entries, has its points joined by other operators, and each
+ * refusal number answered once. What it prints is in tour.out. Lengths are in
+ * steps of 1/64 mm but for the viewer's, which are in millimetres. */
 #include "fenalukki.h"
 
 #include <stdio.h>
@@ -68,16 +68,28 @@ static void put_trailer(struct part *part, int iso)
 
 enum { ISO = 768 };
 
-/* The greater of a bar, which is the sum of two points, and a ball. */
-static void make_part(struct part *part)
+/* A bar, which is the sum of two points, and a ball, joined by an operator. */
+static void join_bar_and_ball(struct part *part, int ball_y, int kind)
 {
     part->length = 0;
     put_point(part, 640, -320, -256, 0, 1024);
     put_point(part, 640, 320, -256, 0, 1024);
     put_operator(part, FENALUKKI_KIND_SUM);
-    put_point(part, 512, 0, 400, 64, 3072);
-    put_operator(part, FENALUKKI_KIND_GREATER);
+    put_point(part, 512, 0, ball_y, 64, 3072);
+    put_operator(part, kind);
     put_trailer(part, ISO);
+}
+
+static void make_part(struct part *part)
+{
+    join_bar_and_ball(part, 400, FENALUKKI_KIND_GREATER);
+}
+
+static const char *kind_word(int kind)
+{
+    static const char *const words[] = {"", "point", "sum", "greater", "lesser", "cut"};
+
+    return words[kind];
 }
 
 static void print_bytes(const struct part *part, size_t offset)
@@ -94,11 +106,11 @@ static void print_record(const struct part *part, size_t offset)
     const uint8_t *record = part->bytes + offset;
 
     print_bytes(part, offset);
+    printf("  %s", kind_word(record[0]));
     if (record[0] == FENALUKKI_KIND_POINT)
-        printf("  point, r %d, x %d, y %d, z %d, w %d\n", get16(record + 2), get16(record + 4),
+        printf(", r %d, x %d, y %d, z %d, w %d", get16(record + 2), get16(record + 4),
                get16(record + 6), get16(record + 8), get16(record + 10));
-    else
-        printf("  %s\n", record[0] == FENALUKKI_KIND_SUM ? "sum" : "greater");
+    printf("\n");
 }
 
 static void show_part(const struct part *part)
@@ -171,21 +183,12 @@ static void draw_column(const uint8_t *bits, char picture[LINES][COLUMNS + 1], i
         picture[line][column] = sign_of(bits, line);
 }
 
-static void print_picture(char picture[LINES][COLUMNS + 1])
+/* Returns 1 unless a column is refused. */
+static int draw_plane(const struct part *part, char picture[LINES][COLUMNS + 1])
 {
-    int line;
-
-    for (line = 0; line < LINES; line++)
-        printf("%s\n", picture[line]);
-}
-
-static void show_plane(const struct part *part)
-{
-    static char picture[LINES][COLUMNS + 1];
     unsigned long probes = 0;
     int i;
 
-    printf("\n3. The plane z 0: ");
     for (i = 0; i < COLUMNS; i++) {
         uint8_t bits[FENALUKKI_COLUMN_BYTES];
         int32_t x = 32 * i - 1008;
@@ -193,13 +196,31 @@ static void show_plane(const struct part *part)
                                            bits, sizeof bits);
 
         if (is_refused(number))
-            return;
+            return 0;
         probes += fenalukki_probes(number);
         draw_column(bits, picture, i);
     }
     printf("%d columns, %lu probes; of %d ticks all (#), some (+) or none (.) are solid\n",
            COLUMNS, probes, TICKS_A_SIGN);
-    print_picture(picture);
+    return 1;
+}
+
+/* Of the plane, the lines from first to the one before after. */
+static void print_plane(const struct part *part, int first, int after)
+{
+    static char picture[LINES][COLUMNS + 1];
+    int line;
+
+    if (!draw_plane(part, picture))
+        return;
+    for (line = first; line < after; line++)
+        printf("%s\n", picture[line]);
+}
+
+static void show_plane(const struct part *part)
+{
+    printf("\n3. The plane z 0: ");
+    print_plane(part, 0, LINES);
 }
 
 /* 4. Full casts: complete, and spent. */
@@ -365,7 +386,30 @@ static void show_bounds(const struct part *part)
     print_bounds(part, 1000, 1000, 1000);
 }
 
-/* 8. Counted calls: three totals that each call adds to. */
+/* 8. Cut and lesser, with the ball moved into the bar. The bar is the earlier
+ * operand, so the cut is the bar without the ball. */
+
+enum { FIRST_LINE = 15, AFTER_LINE = 25 }; /* y from 64 down to -576 */
+
+static void print_overlap(int kind)
+{
+    static struct part part;
+
+    join_bar_and_ball(&part, 0, kind);
+    printf("%s, the plane z 0: ", kind_word(kind));
+    print_plane(&part, FIRST_LINE, AFTER_LINE);
+    print_bounds(&part, 0, -256, 0);
+    print_bounds(&part, 0, -448, 0);
+}
+
+static void show_overlaps(void)
+{
+    printf("\n8. Cut and lesser of the bar and the ball, moved to y 0\n");
+    print_overlap(FENALUKKI_KIND_CUT);
+    print_overlap(FENALUKKI_KIND_LESSER);
+}
+
+/* 9. Counted calls: three totals that each call adds to. */
 
 static void print_totals(const char *after, const uint32_t totals[FENALUKKI_TOTALS])
 {
@@ -382,7 +426,7 @@ static void show_totals(const struct part *part)
     uint8_t marks[FENALUKKI_MARKS_BYTES], bits[FENALUKKI_COLUMN_BYTES];
     uint32_t totals[FENALUKKI_TOTALS] = {0, 0, 0};
 
-    printf("\n8. Running totals\n");
+    printf("\n9. Running totals\n");
     fenalukki_full_cast_counted(file, length, 0, 1024, 0, 0, -1024, 0, 30, marks, sizeof marks,
                                 totals);
     print_totals("a full cast with budget 30", totals);
@@ -401,7 +445,7 @@ static void show_totals(const struct part *part)
     print_totals("a column, with probes near the ceiling", totals);
 }
 
-/* 9. Every refusal: 1 to 11 by a part that has one fault. */
+/* 10. Every refusal: 1 to 11 by a part that has one fault. */
 
 static void put_points(struct part *part, int count)
 {
@@ -447,7 +491,7 @@ static void spoil_records(struct part *part, int number)
         part->length = FENALUKKI_FILE_BYTES_MIN - 1;
         break;
     case FENALUKKI_REFUSED_KIND:
-        part->bytes[0] = FENALUKKI_KIND_GREATER + 1;
+        part->bytes[0] = FENALUKKI_KIND_CUT + 1;
         break;
     case FENALUKKI_REFUSED_ZERO_BYTES:
         part->bytes[1] = 1;
@@ -495,7 +539,7 @@ static void show_refusals(void)
     static struct part part;
     int number;
 
-    printf("\n9. Refusals\n");
+    printf("\n10. Refusals\n");
     for (number = 1; number <= FENALUKKI_REFUSALS; number++) {
         uint64_t answer;
 
@@ -521,6 +565,7 @@ int main(void)
     show_hits(&part);
     show_views(&part);
     show_bounds(&part);
+    show_overlaps();
     show_totals(&part);
     show_refusals();
     return 0;

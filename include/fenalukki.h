@@ -3,10 +3,14 @@
  *
  * A part is a tree of soft points, handed over as the bytes of a part file.
  * The field of a point of weight w and radius r, at the distance d from its
- * centre, is w * (1 - d*d / (r*r))^2 where d < r and 0 elsewhere; fields are
- * summed, or the greater is taken, and the part is solid where the result is at
- * least the iso-value. Weight, iso-value and field have one unit. Lengths are
- * whole steps of 1/64 mm.
+ * centre, is w * (1 - d*d / (r*r))^2 where d < r and 0 elsewhere. An operator
+ * joins two fields, an earlier and a later one, to one field: their sum, the
+ * greater of them, the lesser of them, or a cut, which is the lesser of the
+ * earlier and twice the iso-value minus the later. The part is solid where the
+ * tree's field is at least the iso-value: greater joins two solids, lesser
+ * leaves what both have in common, cut takes the later out of the earlier, and
+ * sum blends them. Weight, iso-value and field have one unit. Lengths are whole
+ * steps of 1/64 mm.
  *
  * A ray runs from end A to end B and is cut into 1,024 equal ticks, 0 to 1,023;
  * tick t is the closed stretch from t/1024 to (t + 1)/1024 of the way. Each
@@ -39,10 +43,11 @@
  *   docs/FORMAT.md, installed as share/doc/fenalukki/FORMAT.md, says how to
  *   build one and has a worked file byte by byte. In short: numbers are
  *   little-endian. Records of 12 bytes are in postfix order: a point adds a
- *   held value, a sum or a greater replaces the last two by one, and one is
- *   left at the end.
+ *   held value, an operator replaces the last two by one, the last being its
+ *   later operand, and one is left at the end.
  *
- *     byte 0       kind: 1 point, 2 sum, 3 greater
+ *     byte 0       kind: 1 point, or an operator: 2 sum, 3 greater, 4 lesser,
+ *                  5 cut
  *     byte 1       0
  *     bytes 2-3    r, unsigned; this and the rest are 0 unless it is a point
  *     bytes 4-9    x, y, z, signed
@@ -107,11 +112,11 @@
  *    4  Is the distance back to the first record 24 to 6,144, a multiple of 12
  *       and no more than the file's length?
  *    5  Is the iso-value 1 to 4,096?
- *    6  Is the record's kind 1 (point), 2 (sum) or 3 (greater)?
- *    7  Are its zero bytes zero: byte 1 of a point, bytes 1 to 11 of another?
+ *    6  Is the record's kind 1 (point) or an operator's, 2 to 5?
+ *    7  Are its zero bytes zero: byte 1 of a point, 1 to 11 of an operator?
  *    8  Of a point: is the radius 1 to 1,024, each coordinate -2,047 to 2,047
  *       and the weight -4,096 to 4,096?
- *    9  Of a sum or a greater: are at least two values held?
+ *    9  Of an operator: are at least two values held?
  *   10  Of a point: are fewer than 64 values held before it?
  *   11  Is exactly one value held at the end?
  *   12  Are the place's or the ray's coordinates -2,047 to 2,047?
@@ -123,11 +128,11 @@
  *
  *   A probe is one working out of the field's bounds over a stretch of ticks.
  *   The time of a cast goes by its probes times the part's records. The most
- *   are 2,047 probes of 511 records. A full cast of that size, of 256 points and
- *   255 sums that leave every tick undecided, takes 55 million instructions by
- *   callgrind, which is 53 for a probe and record; no cast tried took more. A
- *   column takes the same. A smaller budget makes fewer probes and so bounds a
- *   call's time. docs/BENCHMARKS.md has the figures of other parts.
+ *   are 2,047 probes of 511 records. A column of that size, of 256 points, 3 sums
+ *   and 252 cuts that leave every tick undecided, takes 62 million instructions
+ *   by callgrind, which is 59 for a probe and record; no call tried took more.
+ *   With 255 sums it takes 58 million. A smaller budget makes fewer probes and
+ *   so bounds a call's time. docs/BENCHMARKS.md has the figures of other parts.
  *
  * Platform
  *
@@ -149,9 +154,9 @@
 /* The version of this header and of the archive beside it. The major number
  * changes where a host has to change, the minor where names are added. */
 #define FENALUKKI_VERSION_MAJOR 1
-#define FENALUKKI_VERSION_MINOR 0
+#define FENALUKKI_VERSION_MINOR 1
 #define FENALUKKI_VERSION_PATCH 0
-#define FENALUKKI_VERSION "1.0.0"
+#define FENALUKKI_VERSION "1.1.0"
 #define FENALUKKI_VERSION_NUMBER \
     (FENALUKKI_VERSION_MAJOR * 10000 + FENALUKKI_VERSION_MINOR * 100 + FENALUKKI_VERSION_PATCH)
 
@@ -177,6 +182,8 @@
 #define FENALUKKI_KIND_POINT 1
 #define FENALUKKI_KIND_SUM 2
 #define FENALUKKI_KIND_GREATER 3
+#define FENALUKKI_KIND_LESSER 4
+#define FENALUKKI_KIND_CUT 5 /* the earlier value without the later */
 
 /* Marks: a tick's byte after a full cast. */
 #define FENALUKKI_EMPTY 0
@@ -476,10 +483,10 @@ static inline const char *fenalukki_refusal_text(uint64_t number)
         "the file's version is not 1",
         "the distance to the first record is outside 24 to 6,144, not a multiple of 12, or more than the file's length",
         "the iso-value is outside 1 to 4,096",
-        "a record's kind is not 1, 2 or 3",
+        "a record's kind is outside 1 to 5",
         "a record's zero bytes are not all zero",
         "a point's radius is outside 1 to 1,024, a coordinate outside -2,047 to 2,047, or the weight outside -4,096 to 4,096",
-        "a sum or a greater comes where fewer than two values are held",
+        "an operator comes where fewer than two values are held",
         "a point comes where 64 values are held",
         "the values held at the end are not exactly one",
         "a coordinate of the place or ray is outside -2,047 to 2,047",

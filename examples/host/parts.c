@@ -1,10 +1,11 @@
-/* parts FOLDER writes three part files into FOLDER: pad.part, a lattice pad;
- * core.part, a filter core; k.part, one point. All numbers are whole, lengths
- * in steps of 1/64 mm, so the bytes are the same everywhere. */
+/* parts FOLDER writes five part files into FOLDER: pad.part, a lattice pad;
+ * core.part, core-sum.part and core-cut.part, a filter core with its bores made
+ * in three ways; k.part, one point. All numbers are whole, lengths in steps of
+ * 1/64 mm, so the bytes are the same everywhere. */
 #include <stdint.h>
 #include <stdio.h>
 
-enum { POINT = 1, SUM = 2, GREATER = 3 };
+enum { POINT = 1, SUM = 2, GREATER = 3, CUT = 5 };
 enum { RECORD = 12, TRAILER = 12, MOST_BYTES = 6144 };
 
 struct part {
@@ -112,11 +113,10 @@ static void make_pad(struct part *part)
     end_part(part, PAD_ISO);
 }
 
-/* The core: a body of four layers, a collar at its foot, the greater of the
- * two, and seven bores of negative weight, summed with it. */
+/* A core: a body of four layers, a collar at its foot, the greater of the two,
+ * and seven bores. */
 
 enum { CORE_ISO = 16, LAYERS = 4, FOOT = -390, RISE = 260 };
-enum { BORE_R = 160, BORE_W = -120, BORE_LAYERS = 9, BORE_FOOT = -560, BORE_RISE = 140 };
 
 /* Points of one radius at a distance around the axis. In 24ths of a turn: the
  * first one's angle, and the angle from one to the next. */
@@ -127,7 +127,17 @@ struct ring {
 static const struct ring inner = {250, 2, 4, 385};
 static const struct ring outer = {500, 0, 1, 385};
 static const struct ring collar = {700, 0, 1, 360};
-static const struct ring bores = {360, 0, 4, BORE_R};
+
+/* A bore on the axis and one at each place of the ring. Each is a row of points
+ * along z, one a layer. With r almost twice the rise, as in the fine ones, a
+ * row's field hardly changes along it; in the coarse ones it goes up and down. */
+struct bores {
+    struct ring ring;
+    int layers, foot, rise;
+};
+
+static const struct bores coarse = {{360, 0, 4, 160}, 9, -560, 140};
+static const struct bores fine = {{360, 0, 4, 195}, 14, -650, 100};
 
 /* A thousand times the cosine of an angle that is at least 0. */
 static int cosine(int angle)
@@ -175,29 +185,47 @@ static void put_body(struct part *part)
     }
 }
 
-static void put_bores(struct part *part)
+static void put_bores(struct part *part, const struct bores *bores, int w)
 {
     int i;
 
-    for (i = 0; i < BORE_LAYERS; i++) {
-        int z = BORE_FOOT + i * BORE_RISE;
+    for (i = 0; i < bores->layers; i++) {
+        int z = bores->foot + i * bores->rise;
 
-        put_point(part, BORE_R, 0, 0, z, BORE_W);
-        put_ring(part, &bores, z, BORE_W);
+        put_point(part, bores->ring.r, 0, 0, z, w);
+        put_ring(part, &bores->ring, z, w);
         join(part, SUM);
         if (i > 0)
             join(part, SUM);
     }
 }
 
-static void make_core(struct part *part)
+/* The bores are the later operand. */
+static void make_bored(struct part *part, const struct bores *bores, int w, int kind)
 {
     put_body(part);
     put_ring(part, &collar, FOOT, 12);
     join(part, GREATER);
-    put_bores(part);
-    join(part, SUM);
+    put_bores(part, bores, w);
+    join(part, kind);
     end_part(part, CORE_ISO);
+}
+
+static void make_core(struct part *part)
+{
+    make_bored(part, &coarse, -120, SUM);
+}
+
+/* Of one set of points: bores by negative weights, and bores that are cut. */
+
+static void make_core_sum(struct part *part)
+{
+    make_bored(part, &fine, -33, SUM);
+}
+
+static void make_core_cut(struct part *part)
+{
+    make_bored(part, &fine, 33, CUT);
 }
 
 /* File K of the worked rays. */
@@ -237,10 +265,13 @@ int main(int argc, char **argv)
 {
     if (argc != 2) {
         fprintf(stderr, "usage: parts FOLDER\n"
-                        "Writes pad.part, core.part and k.part into FOLDER.\n");
+                        "Writes pad.part, core.part, core-sum.part, core-cut.part and k.part\n"
+                        "into FOLDER.\n");
         return 1;
     }
     return !(write_part(argv[1], "pad.part", make_pad)
              && write_part(argv[1], "core.part", make_core)
+             && write_part(argv[1], "core-sum.part", make_core_sum)
+             && write_part(argv[1], "core-cut.part", make_core_cut)
              && write_part(argv[1], "k.part", make_k));
 }

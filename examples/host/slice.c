@@ -1,12 +1,14 @@
-/* A host: slice PART Z PLANE.png DEPTH.png casts rays through the part file
- * PART and writes two pictures of it. All arithmetic is in whole numbers, so
- * the pictures are the same on every machine. Lengths are in steps of 1/64 mm,
- * coordinates -2,047 to 2,047. */
+/* A host: slice PART PICTURE.png [AXIS PLACE] casts rays through the part file
+ * PART and writes a picture of it: a plane at right angles to an axis, or a
+ * depth image. All arithmetic is in whole numbers, so the pictures are the same
+ * on every machine. Lengths are in steps of 1/64 mm, coordinates -2,047 to
+ * 2,047. */
 #include "fenalukki.h"
 #include "png.h"
 
 #include <stdio.h>
 #include <stdlib.h>
+#include <string.h>
 
 /* An answer below this is a refusal number. */
 enum { FIRST_ANSWER = 65536 };
@@ -46,10 +48,22 @@ static void print_refusal(const char *call, unsigned long number)
     fprintf(stderr, "slice: %s refused %lu\n", call, number);
 }
 
-/* The plane: x and y from -1,024 to 1,024. A row of pixels is a column along x
- * at the row's middle. A tick is two steps long and a row two steps high. */
+/* The plane: the two other axes from -1,024 to 1,024. A row of pixels is a
+ * column along one of them at the row's middle. A tick is two steps long and a
+ * row two steps high. */
 
 enum { PLANE_END = 1024, PLANE_ROWS = 1024, ROW_BYTES = 128 };
+
+/* Axes are 0 to 2. Of the plane at right angles to each: the axes that go
+ * rightwards and upwards in the picture. */
+static const char axes[] = "xyz";
+static const int along_rows[3] = {1, 0, 0};
+static const int across_rows[3] = {2, 2, 1};
+
+struct plane {
+    int axis;
+    int32_t place;
+};
 
 /* A column has its first tick in the lowest bit, a picture its first pixel in
  * the highest. Returns how many bits are 1. */
@@ -79,16 +93,28 @@ static unsigned long reverse_row(uint8_t *row)
     return ones;
 }
 
-static int write_plane(const struct part *part, int32_t z, const char *path)
+/* Answers the number of the row's column. */
+static uint32_t cast_row(const struct part *part, const struct plane *plane, int row,
+                         uint8_t *bits)
+{
+    int32_t a[3], b[3];
+
+    a[plane->axis] = b[plane->axis] = plane->place;
+    a[across_rows[plane->axis]] = b[across_rows[plane->axis]] = PLANE_END - 1 - 2 * row;
+    a[along_rows[plane->axis]] = -PLANE_END;
+    b[along_rows[plane->axis]] = PLANE_END;
+    return fenalukki_column(part->bytes, part->length, a[0], a[1], a[2], b[0], b[1], b[2],
+                            bits, ROW_BYTES);
+}
+
+static int write_plane(const struct part *part, const struct plane *plane, const char *path)
 {
     static uint8_t rows[PLANE_ROWS][ROW_BYTES];
     unsigned long probes = 0, solid = 0;
     int i;
 
     for (i = 0; i < PLANE_ROWS; i++) {
-        int32_t y = PLANE_END - 1 - 2 * i;
-        uint32_t answer = fenalukki_column(part->bytes, part->length, -PLANE_END, y, z,
-                                           PLANE_END, y, z, rows[i], ROW_BYTES);
+        uint32_t answer = cast_row(part, plane, i, rows[i]);
 
         if (answer < FIRST_ANSWER) {
             print_refusal("column", answer);
@@ -99,8 +125,8 @@ static int write_plane(const struct part *part, int32_t z, const char *path)
     }
     if (!write_picture(path, 8 * ROW_BYTES, PLANE_ROWS, 1, rows[0]))
         return 0;
-    printf("%s: plane z %ld, %d columns, %lu probes, %lu ticks solid\n", path, (long)z,
-           PLANE_ROWS, probes, solid);
+    printf("%s: plane %c %ld, %d columns, %lu probes, %lu ticks solid\n", path,
+           axes[plane->axis], (long)plane->place, PLANE_ROWS, probes, solid);
     return 1;
 }
 
@@ -218,20 +244,31 @@ static int read_number(const char *word, int32_t *number)
     return end != word && *end == '\0' && *number == value;
 }
 
+static int read_plane(char **words, struct plane *plane)
+{
+    const char *axis = strchr(axes, words[0][0]);
+
+    if (axis == NULL || words[0][0] == '\0' || words[0][1] != '\0')
+        return 0;
+    plane->axis = (int)(axis - axes);
+    return read_number(words[1], &plane->place);
+}
+
 int main(int argc, char **argv)
 {
     static struct part part;
-    int32_t z;
+    struct plane plane = {0, 0};
 
-    if (argc != 5 || !read_number(argv[2], &z)) {
+    if (argc != 3 && !(argc == 5 && read_plane(argv + 3, &plane))) {
         fprintf(stderr,
-                "usage: slice PART Z PLANE.png DEPTH.png\n"
-                "PLANE.png: the plane at height Z, white where a tick is inside or crossing.\n"
-                "DEPTH.png: the part seen obliquely, the brighter the nearer.\n"
+                "usage: slice PART PICTURE.png [AXIS PLACE]\n"
+                "With AXIS x, y or z: the plane at PLACE on it, white where a tick is inside or\n"
+                "crossing. Without: the part seen obliquely, the brighter the nearer.\n"
                 "Status 1 where a call is refused, with its number, or a file cannot be\n"
                 "read or written.\n");
         return 1;
     }
-    return !(read_part(argv[1], &part) && write_plane(&part, z, argv[3])
-             && write_depth(&part, argv[4]));
+    if (!read_part(argv[1], &part))
+        return 1;
+    return !(argc == 5 ? write_plane(&part, &plane, argv[2]) : write_depth(&part, argv[2]));
 }

@@ -6,7 +6,6 @@ mod prototypes;
 
 use prototypes::{c_entries, rattle_entries, Entry};
 use reference::cast::{self, Column, FirstHit, FullCast, Mark};
-use reference::field::{place_bounds, whole_place};
 use reference::generate::{self, Shape, SplitMix64};
 use reference::part::{self, FileBuilder};
 use std::collections::{BTreeMap, BTreeSet};
@@ -206,6 +205,16 @@ fn the_names_of_sizes_and_marks() {
     assert_eq!(named("NOT_LOOKED_AT"), cast::NOT_LOOKED_AT.into());
 }
 
+/// The kinds of document 01 and P1, in their order.
+#[test]
+fn the_names_of_kinds() {
+    let names = ["POINT", "SUM", "GREATER", "LESSER", "CUT"];
+    let kinds = names.map(|name| named(&format!("KIND_{name}")));
+    assert_eq!(kinds, [1, 2, 3, 4, 5]);
+    let header = read("include/fenalukki.h");
+    assert_eq!(header.matches("#define FENALUKKI_KIND_").count(), 5);
+}
+
 /// The words of a line of `readers.c` for a call's number.
 const REFUSAL: usize = 0;
 const PROBES: usize = 1;
@@ -338,14 +347,13 @@ fn the_width_of_the_bounds_at_a_place() {
     };
     let mut random = SplitMix64::new(131_071);
     for _ in 0..2000 {
-        let nodes = generate::part(&mut random, &shape).nodes;
+        let part = generate::part(&mut random, &shape);
         let at = [0; 3].map(|_: i32| random.between(-600, 600) as i32);
-        let bounds = place_bounds(&nodes, &whole_place(at)).expect("one value");
-        let weights: i64 = nodes.iter().map(|node| i64::from(node.w).abs()).sum();
-        assert!(
-            bounds.high - bounds.low <= 131_071 * weights,
-            "{at:?} {nodes:?}"
-        );
+        let file = FileBuilder::from(&part).build();
+        let bounds = cast::bounds_at(&file, at).expect("bounds");
+        let weights = part.nodes.iter().map(|node| i64::from(node.w).abs());
+        let most = 131_071 * weights.sum::<i64>();
+        assert!(bounds.high - bounds.low <= most, "{at:?} {part:?}");
     }
     let k = FileBuilder::new(1).point(512, [0; 3], 4).build();
     let bounds = cast::bounds_at(&k, [1, 0, 0]).expect("bounds");
@@ -458,27 +466,31 @@ fn the_tour() {
     }
 }
 
-/// A tour of a part that is refused reads nothing that was lent.
-#[test]
-fn a_tour_of_a_refused_part() {
-    let spoiled = temporary("spoiled_tour.c");
+/// What the tour prints with some words replaced.
+fn edited_tour(name: &str, edits: &[(&str, &str)]) -> String {
+    let source = temporary(&format!("{name}.c"));
     let mut tour = read("examples/tour.c");
-    for (from, to) in [
-        ("put_trailer(part, ISO)", "put_trailer(part, 0)"),
-        (
-            "if (!show_check(&part))\n        return 1;",
-            "show_check(&part);",
-        ),
-    ] {
+    for (from, to) in edits {
         assert!(tour.contains(from), "{from}");
         tour = tour.replacen(from, to, 1);
     }
-    fs::write(&spoiled, tour).expect("written");
-    let program = c99("spoiled_tour", &[spoiled.to_str().expect("a path")]);
-    let output = printed(&program, "");
+    fs::write(&source, tour).expect("written");
+    let program = c99(name, &[source.to_str().expect("a path")]);
+    printed(&program, "")
+}
+
+/// A tour of a part that is refused reads nothing that was lent.
+#[test]
+fn a_tour_of_a_refused_part() {
+    let check = "if (!show_check(&part))\n        return 1;";
+    let edits = [
+        ("put_trailer(part, ISO)", "put_trailer(part, 0)"),
+        (check, "show_check(&part);"),
+    ];
+    let output = edited_tour("spoiled_tour", &edits);
     let sections: Vec<&str> = output.split("\n\n").collect();
-    assert_eq!(sections.len(), 10);
-    for (section, refused) in sections[2..8].iter().zip([1, 1, 3, 4, 3, 4]) {
+    assert_eq!(sections.len(), 11);
+    for (section, refused) in sections[2..9].iter().zip([1, 1, 3, 4, 3, 4, 6]) {
         let lines = section.lines().rev().take(refused);
         let said = lines.filter(|line| line.contains(": refused 5, ")).count();
         assert_eq!(said, refused, "{section}");
@@ -500,6 +512,75 @@ fn block<'a>(document: &'a str, language: &str) -> &'a str {
         .expect("a block")
         .1;
     after.split_once("```").expect("its end").0
+}
+
+/// A section of a text, from its heading to the next one.
+fn section<'a>(text: &'a str, heading: &str, next: &str) -> &'a str {
+    let after = text.split_once(heading).expect("a section").1;
+    after.split_once(next).expect("its end").0
+}
+
+/// The document's section on cut and lesser.
+fn worked_cut(format: &str) -> &str {
+    section(format, "\n## A worked cut\n", "\n## ")
+}
+
+/// What the tour prints of cut, and of lesser.
+fn overlaps(tour: &str) -> [&str; 2] {
+    let both = section(tour, "\n\n8. ", "\n\n9. ");
+    let (cut, lesser) = both.split_once("\nlesser, ").expect("both");
+    [cut, lesser]
+}
+
+/// The document's pieces of their planes are the tour's.
+#[test]
+fn the_format_shows_cut_and_lesser() {
+    let (format, tour) = (read("docs/FORMAT.md"), read("examples/tour.out"));
+    let both = worked_cut(&format).split_once("and for the lesser:");
+    let (cut, lesser) = both.expect("both");
+    for (document, printed) in [cut, lesser].iter().zip(overlaps(&tour)) {
+        let lines = indented(document, "......");
+        assert_eq!(lines.len(), 10);
+        assert!(printed.contains(&lines.join("\n")), "{lines:?}");
+    }
+}
+
+/// Whether a cell, "−120.75, below 768: empty", agrees with a line of bounds, "…, field A to B, empty".
+fn agrees(cell: &str, line: &str) -> bool {
+    let (value, verdict) = cell.trim().rsplit_once(": ").expect("two");
+    let value = value.split(',').next().unwrap_or_default();
+    let value: f64 = value.replace('−', "-").parse().expect("a number");
+    let words: Vec<&str> = line.split([' ', ',']).rev().collect();
+    let [low, high] = [4, 2].map(|at| words[at].parse::<f64>().expect("a number"));
+    let room = 0.0005; // three digits are printed
+    words[0] == verdict && low - room <= value && value <= high + room
+}
+
+/// The values that the document works out lie in the bounds that the tour prints.
+#[test]
+fn the_values_of_the_worked_cut() {
+    let (format, tour) = (read("docs/FORMAT.md"), read("examples/tour.out"));
+    for (row, printed) in ["| cut |", "| lesser, "].iter().zip(overlaps(&tour)) {
+        let rows = worked_cut(&format).lines();
+        let row = rows.filter(|line| line.starts_with(row)).last();
+        let cells = row.expect("a row").trim_matches('|').split('|').skip(1);
+        let lines: Vec<&str> = printed.lines().filter(|l| l.contains(", field ")).collect();
+        assert_eq!((lines.len(), cells.clone().count()), (2, 2));
+        for (cell, line) in cells.zip(lines) {
+            assert!(agrees(cell, line), "{cell} {line}");
+        }
+    }
+}
+
+/// The document's two records are those of the part that the tour cuts.
+#[test]
+fn the_records_of_the_worked_cut() {
+    let format = read("docs/FORMAT.md");
+    let records = indented(worked_cut(&format), " 36 01 00");
+    let (from, to) = ("400, FENALUKKI_KIND_GREATER", "0, FENALUKKI_KIND_CUT");
+    let output = edited_tour("cut_tour", &[(from, to)]);
+    assert_eq!(records.len(), 2);
+    assert!(output.contains(&records.join("\n")), "{records:?}");
 }
 
 /// The document's file, its plane and its cast are the tour's.

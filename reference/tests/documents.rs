@@ -74,6 +74,48 @@ fn every_crate_and_folder_is_on_the_map() {
     }
 }
 
+/// The names of a folder's files with this end.
+fn names(folder: &str, end: &str) -> Vec<String> {
+    let entries = fs::read_dir(root().join(folder)).expect("a folder");
+    let names = entries.map(|e| e.expect("an entry").file_name());
+    let names = names.map(|name| name.to_string_lossy().into_owned());
+    names.filter(|name| name.ends_with(end)).collect()
+}
+
+#[test]
+fn the_readme_shows_every_part_and_picture() {
+    let readme = read("README.md");
+    let parts = names("examples/parts", ".part");
+    let pictures = names("docs/pictures", ".png");
+    assert_eq!((parts.len(), pictures.len()), (5, 11));
+    let parts = parts.iter().map(|name| format!("| `{name}`: "));
+    let pictures = pictures
+        .iter()
+        .map(|name| format!("src=\"docs/pictures/{name}\""));
+    let counts = ["makes five part files", "writes eleven pictures"].map(String::from);
+    for shown in parts.chain(pictures).chain(counts) {
+        assert!(readme.contains(&shown), "{shown}");
+    }
+}
+
+/// A file of n points has 2n − 1 records and a trailer, 12 bytes each.
+#[test]
+fn the_points_of_the_readmes_parts() {
+    let readme = read("README.md");
+    let mut seen = 0;
+    for row in readme.lines().filter_map(|line| line.strip_prefix("| `")) {
+        let Some((words, _)) = row.split_once(" points | ") else {
+            continue;
+        };
+        let (name, words) = words.split_once("`: ").expect("a part");
+        let points = words.rsplit(' ').next().map(str::parse::<u64>);
+        let file = fs::metadata(root().join("examples/parts").join(name));
+        assert_eq!(points, Some(Ok(file.expect(name).len() / 24)), "{name}");
+        seen += 1;
+    }
+    assert_eq!(seen, 3);
+}
+
 fn assert_paths(document: &str) {
     for word in quoted(&read(document)).filter(|word| is_path(word)) {
         assert!(root().join(word).exists(), "{document}: {word}");

@@ -1,3 +1,4 @@
+pub mod Ends
 pub mod Sizes
 pub mod Serving
 pub mod Stack

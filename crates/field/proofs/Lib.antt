@@ -7,8 +7,9 @@ pub mod Width
 pub mod Kernels
 pub mod Points
 pub mod Operators
-pub mod Overlaps
 pub mod Enclosure
+pub mod Subtrees
+pub mod Overlaps
 pub mod States
 pub mod Nested
 pub mod Tolerance

@@ -73,12 +73,13 @@ lesser-endwise = record {
 
 complement-encloses : (iso : ℕ) (b : Bounds) (y : Fraction) → Encloses b y → Encloses (complementBounds iso b) (complement iso y)
 complement-encloses iso b y k = record {
-  proper = less-proper (pos (2 * iso)) y (k .proper);
+  proper = less-proper _ y (k .proper);
   above = subst (λ (z : Fraction). z ≼ complement iso y) (less-over (pos (2 * iso)) (b .high) fixedOne) (less-anti (pos (2 * iso)) (k .below));
   below = subst (λ (z : Fraction). complement iso y ≼ z) (less-over (pos (2 * iso)) (b .low) fixedOne) (less-anti (pos (2 * iso)) (k .above));
 }
 
-module _ {f : Fraction → Fraction → Fraction} {g : ℤ → ℤ → ℤ} (e : Endwise f g) (a b : Bounds) (x y : Fraction) (h : Encloses a x) (k : Encloses b y) where
+module _ {f : Fraction → Fraction → Fraction} {g : ℤ → ℤ → ℤ} (e : Endwise f g) (a b : Bounds) (x y : Fraction)
+    (h : Encloses a x) (k : Encloses b y) where
   joined : (l m : ℤ) → Proper (f (units l) (units m))
   joined l m = e .proper (units l) (units m) one-pos one-pos
 

@@ -1,4 +1,4 @@
--- The exact field (document 01; lesser and cut: document 02, P1): "The exact field at a place is the tree's value there, without rounding and without bounds."
+-- The exact field (document 01; document 02, P1): "The exact field at a place is the tree's value there, without rounding and without bounds."
 use Prim.Native.Nat.{ℕ, _*_}
 use lib.IntN.{pos}
 use Rattle.exact.specs.Fraction.{Fraction, _over_, plus, less, greater, lesser}

@@ -2,7 +2,7 @@
 
 use reference::field::Ray;
 use reference::generate::{lattice, strut};
-use reference::part::{read, FileBuilder, Kind, Node, Part, REACH};
+use reference::part::{read, FileBuilder, Kind, Node, Part, OPERATORS, REACH};
 use std::fs;
 use std::hint::black_box;
 use std::path::Path;
@@ -86,7 +86,14 @@ pub fn parts() -> Vec<Load> {
         let part = read(&file).unwrap_or_else(|number| panic!("{name}: refused {number}"));
         Load::new(name.to_string(), &part, raster(&part))
     };
-    ["pad.part", "core.part", "k.part"].map(load).into()
+    let names = [
+        "pad.part",
+        "core.part",
+        "core-cut.part",
+        "core-sum.part",
+        "k.part",
+    ];
+    names.map(load).into()
 }
 
 /// Lattices of 1, 2, 4 and so on up to 256 points.
@@ -99,31 +106,53 @@ pub fn lattices() -> Vec<Load> {
     (0..=8).map(load).collect()
 }
 
-/// The greatest number of points, of which half cancel the other half: no tick
-/// is decided where they reach. A ray's first ticks lie there, the others do
-/// not.
-pub fn cancelled() -> Vec<Load> {
-    let point = |n: i16| Node {
-        kind: Kind::Point,
-        r: 1024,
-        x: -1,
-        y: 0,
-        z: 0,
-        w: if n % 2 == 0 { 4096 } else { -4096 },
+/// The greatest number of points, all at one place. The first four cancel each
+/// other, and the others, joined to them by one operator, leave the field 0.
+fn undecided(kind: Kind) -> Part {
+    let weight = |n: i32| match kind {
+        Kind::Lesser if n > 3 => 4096,
+        Kind::Greater | Kind::Cut if n > 3 => -4096,
+        _ if n % 2 == 0 => 4096,
+        _ => -4096,
     };
-    let file = (0..256).fold(FileBuilder::new(1), |file, n| match n {
-        0 => file.node(&point(n)),
-        _ => file.node(&point(n)).sum(),
+    let file = (0..256).fold(FileBuilder::new(1), |file, n| {
+        let file = file.point(1024, [-1, 0, 0], weight(n));
+        match n {
+            0 => file,
+            1..=3 => file.sum(),
+            _ => file.operator(kind),
+        }
     });
-    let part = read(&file.build()).expect("a part");
-    let load = |ticks: i32| {
-        let ray = Ray {
-            a: [1023 - ticks, 0, 0],
-            b: [2047 - ticks, 0, 0],
-        };
-        Load::new(format!("crossing ticks: {ticks}"), &part, vec![ray])
+    read(&file.build()).expect("a part")
+}
+
+/// A column of a part on a ray along the x axis.
+fn on_axis(name: String, part: &Part, from: i32, to: i32) -> Load {
+    let ray = Ray {
+        a: [from, 0, 0],
+        b: [to, 0, 0],
+    };
+    Load::new(name, part, vec![ray])
+}
+
+/// A ray's first ticks lie where the points reach, and none of these is
+/// decided; the others lie outside.
+pub fn cancelled() -> Vec<Load> {
+    let part = undecided(Kind::Sum);
+    let load = |ticks| {
+        let name = format!("crossing ticks: {ticks}");
+        on_axis(name, &part, 1023 - ticks, 2047 - ticks)
     };
     [0, 1, 8, 16, 32, 64, 128, 256, 512, 1024].map(load).into()
+}
+
+/// A ray of which no tick is decided, by each operator.
+pub fn operators() -> Vec<Load> {
+    let load = |kind| {
+        let name = format!("{kind:?}").to_lowercase();
+        on_axis(name, &undecided(kind), 39, 999)
+    };
+    OPERATORS.map(load).into()
 }
 
 /// A strut that stands between two samples.
@@ -134,7 +163,7 @@ pub fn struts() -> Vec<Load> {
 
 /// The load of this name.
 pub fn named(name: &str) -> Load {
-    let loads = [parts(), lattices(), cancelled()];
+    let loads = [parts(), lattices(), cancelled(), operators()];
     let load = loads.into_iter().flatten().find(|load| load.name == name);
     load.expect("the name of a load")
 }

@@ -61,7 +61,7 @@ fn print_parts() {
         "Time / Rust",
         "Time / samples",
     ];
-    print_head("Three parts", &columns);
+    print_head("Five parts", &columns);
     loads::parts().iter().for_each(print_part);
 }
 
@@ -113,5 +113,6 @@ fn main() {
     print_parts();
     print_growth("Growth with points", &loads::lattices());
     print_growth("Growth with probes", &loads::cancelled());
+    print_growth("Each operator", &loads::operators());
     print_struts();
 }
