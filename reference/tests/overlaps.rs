@@ -75,11 +75,9 @@ fn places_of_two_points() {
             low / (ONE / 4)
         })
     };
-    for iso in [1, 4096] {
-        for points in [[first, second], [second, first]] {
-            assert_eq!(quarters(iso, points, Kind::Lesser), [16, 9]);
-            assert_eq!(quarters(iso, points, Kind::Greater), [18, 32]);
-        }
+    for (iso, points) in [(1, [first, second]), (4096, [second, first])] {
+        assert_eq!(quarters(iso, points, Kind::Lesser), [16, 9]);
+        assert_eq!(quarters(iso, points, Kind::Greater), [18, 32]);
     }
     // 2 - 9/2 is less than 4, and 2 - 8 than 9/4.
     assert_eq!(quarters(1, [first, second], Kind::Cut), [-10, -24]);
@@ -265,23 +263,28 @@ fn a_bore_at_the_largest_iso_value() {
     assert_eq!(runs(&bore(pair(512).sum()).lesser(), &AXIS), core);
 }
 
-/// 64 values held, joined by the four operators in turn.
+/// 64 values held, joined by the four operators in turn from one of them on.
+fn wide_tree(iso: u16, first: usize) -> FileBuilder {
+    let point = |b: FileBuilder, i: i16| b.point(1024 - i as u16, [i, -2 * i, 3], 60 - i);
+    let held = (0..64).fold(FileBuilder::new(iso), point);
+    let kinds = OPERATORS.iter().cycle().skip(first).take(63);
+    kinds.fold(held, |b, &kind| b.operator(kind))
+}
+
+/// Bounds at three places, and casts on three rays.
+fn ask(builder: &FileBuilder) {
+    for (at, y) in [([0; 3], 0), ([-300, 200, 5], 400), ([1, 1023, -2], 900)] {
+        bounds(builder, at);
+        runs(builder, &at_y(y));
+    }
+}
+
 #[test]
 fn a_wide_tree_of_all_operators() {
-    let point = |b: FileBuilder, i: i16| b.point(1024 - i as u16, [i, -2 * i, 3], 60 - i);
-    for iso in [1, 30, 4096] {
-        let held = (0..64).fold(FileBuilder::new(iso), point);
-        for shift in 0..4 {
-            let kinds = OPERATORS.iter().cycle().skip(shift).take(63);
-            let wide = kinds.fold(held.clone(), |b, &kind| b.operator(kind));
-            assert_eq!(check(&wide.build()), Ok((127, u32::from(iso))));
-            for at in [[0; 3], [-300, 200, 5], [1, 1023, -2]] {
-                bounds(&wide, at);
-            }
-            for y in [0, 400, 900] {
-                runs(&wide, &at_y(y));
-            }
-        }
+    for (iso, first) in [(1, 0), (1, 1), (2, 2), (5, 3), (30, 0), (30, 2), (4096, 1)] {
+        let wide = wide_tree(iso, first);
+        assert_eq!(check(&wide.build()), Ok((127, u32::from(iso))));
+        ask(&wide);
     }
 }
 
@@ -331,10 +334,7 @@ impl AtOnePlace {
         assert_eq!(check(&self.builder.build()), Ok((511, 4096)));
         let both = value * ONE;
         assert_eq!(bounds(&self.builder, [0; 3]), (both, both));
-        bounds(&self.builder, [1, 0, 0]);
-        bounds(&self.builder, [-300, 200, 5]);
-        runs(&self.builder, &AXIS);
-        runs(&self.builder, &at_y(700));
+        ask(&self.builder);
         value
     }
 }
@@ -357,20 +357,22 @@ fn the_largest_sums_cut() {
     assert_eq!(half(4096).assert_largest(), -516_096);
 }
 
-/// Points joined one by one to all before them, a cut after each three sums, and
-/// the four operators in turn.
+/// Points of two weights in turn, joined one by one to all before them by four
+/// operators in turn.
+fn chain([even, odd]: [i16; 2], kinds: [Kind; 4]) -> AtOnePlace {
+    let one = AtOnePlace::new().point(even);
+    (1..256).fold(one, |tree, i| {
+        let w = if i % 2 == 0 { even } else { odd };
+        tree.point(w).join(kinds[i % 4])
+    })
+}
+
 #[test]
 fn cuts_between_sums() {
     let three_sums = [Kind::Sum, Kind::Sum, Kind::Sum, Kind::Cut];
-    for [even, odd] in [[4096, 4096], [4096, -4096], [-4096, 4096], [-4096; 2]] {
-        for kinds in [three_sums, OPERATORS] {
-            let one = AtOnePlace::new().point(even);
-            let chain = (1..256).fold(one, |tree, i| {
-                let w = if i % 2 == 0 { even } else { odd };
-                tree.point(w).join(kinds[i % 4])
-            });
-            chain.assert_largest();
-        }
+    for weights in [[4096; 2], [4096, -4096], [-4096, 4096], [-4096; 2]] {
+        chain(weights, three_sums).assert_largest();
+        chain(weights, OPERATORS).assert_largest();
     }
 }
 
@@ -392,20 +394,33 @@ fn assert_refused(builder: &FileBuilder, number: u32) {
 }
 
 #[test]
-fn refused_records() {
+fn refused_kinds() {
     let two = joined(1, &[BALL, BORE], &[]);
     for kind in (0..=0).chain(6..=255) {
         assert_refused(&two.clone().raw(operator_record(kind)), 6);
     }
+}
+
+#[test]
+fn operators_without_two_values() {
     for kind in OPERATORS {
         assert_refused(&joined(1, &[], &[kind]), 9);
         assert_refused(&joined(1, &[BALL], &[kind]), 9);
         assert_refused(&joined(1, &[BALL, BORE], &[kind; 2]), 9);
-        for at in 1..RECORD {
-            let mut record = operator_record(kind as u8);
-            record[at] = 1;
-            assert_refused(&two.clone().raw(record), 7);
-            assert_refused(&joined(1, &[], &[]).raw(record), 7);
-        }
     }
+}
+
+/// One byte of an operator that is not zero, after two points and alone.
+fn assert_zero_bytes(kind: Kind) {
+    for at in 1..RECORD {
+        let mut record = operator_record(kind as u8);
+        record[at] = 1;
+        assert_refused(&joined(1, &[BALL, BORE], &[]).raw(record), 7);
+        assert_refused(&joined(1, &[], &[]).raw(record), 7);
+    }
+}
+
+#[test]
+fn operators_with_a_byte_that_is_not_zero() {
+    OPERATORS.into_iter().for_each(assert_zero_bytes);
 }
