@@ -249,18 +249,13 @@ fn a_cut_inside_a_sum_and_a_lesser() {
 /// 373 and 650, 477 and 546.
 #[test]
 fn a_bore_at_the_largest_iso_value() {
-    let pair = |r| {
-        FileBuilder::new(4096)
-            .point(r, [0; 3], 4096)
-            .point(r, [0; 3], 4096)
-    };
-    let bore = |b: FileBuilder| b.point(128, [0; 3], 4096).point(128, [0; 3], 4096).sum();
-    let cut = bore(pair(512).sum()).cut();
+    let two = |b: FileBuilder, r| b.point(r, [0; 3], 4096).point(r, [0; 3], 4096).sum();
+    let both = two(two(FileBuilder::new(4096), 512), 128);
     let ring = "empty 0 373, crossing 373 374, inside 374 477, crossing 477 478, \
         empty 478 546, crossing 546 547, inside 547 650, crossing 650 651, empty 651 1024";
-    assert_eq!(runs(&cut, &AXIS), ring);
+    assert_eq!(runs(&both.clone().cut(), &AXIS), ring);
     let core = "empty 0 477, crossing 477 478, inside 478 546, crossing 546 547, empty 547 1024";
-    assert_eq!(runs(&bore(pair(512).sum()).lesser(), &AXIS), core);
+    assert_eq!(runs(&both.lesser(), &AXIS), core);
 }
 
 /// 64 values held, joined by the four operators in turn from one of them on.
