@@ -15,9 +15,10 @@ mod worked;
 use calls::{check, in_millimetres, place_bounds, Host};
 use common::printed;
 use reference::cast::{Column, FirstHit, FullCast};
-use reference::field::{Bounds, Ray};
+use reference::field::{field_on_ray, Bounds, Ray};
+use reference::fraction::Fraction;
 use reference::lister::{input, list};
-use reference::part::{operator_record, FileBuilder, Kind, OPERATORS, RECORD};
+use reference::part::{operator_record, read, FileBuilder, Kind, OPERATORS, RECORD};
 use reference::view::ViewerHit;
 use worked::{at_y, file_k, AXIS};
 
@@ -89,6 +90,36 @@ fn places_of_two_points() {
     assert_eq!(quarters(4096, [second, first], Kind::Cut), [18, 32]);
     // 4 less 9/2, and 4 less 8, with iso 2.
     assert_eq!(quarters(2, [first, second], Kind::Cut), [-2, -16]);
+}
+
+/// Points of r 5, w 625 at (0, 0, 0) and w 625 or -625 at (3, 4, 0). At (0, 3, 0)
+/// d^2 is 9 and 10, u 16/25 and 15/25, the fields 256 and 225. At (1/2, 3, 0) d^2
+/// is 37/4 and 29/4, u 63/100 and 71/100, the fields 3969/16 and 5041/16.
+#[test]
+fn exact_fields() {
+    let ray = Ray {
+        a: [0, 3, 0],
+        b: [6, 3, 0],
+    };
+    let sixteenths = |weights: [i16; 2], kind, n| {
+        let [first, second] = weights;
+        let one = FileBuilder::new(1).point(5, [0; 3], first);
+        let file = one.point(5, [3, 4, 0], second).operator(kind).build();
+        let part = read(&file).expect("an accepted file");
+        let field = field_on_ray(&part, &ray, n, 12).expect("a tree");
+        &field * &Fraction::from(16)
+    };
+    let both = |weights, kind| [0, 1].map(|n| sixteenths(weights, kind, n));
+    let whole = |numbers: [i64; 2]| numbers.map(Fraction::from);
+    let (solid, hollow) = ([625, 625], [625, -625]);
+    assert_eq!(both(solid, Kind::Lesser), whole([16 * 225, 3969]));
+    assert_eq!(both(hollow, Kind::Lesser), whole([-16 * 225, -5041]));
+    // 2 less 225, and less 5041/16
+    assert_eq!(both(solid, Kind::Cut), whole([-16 * 223, 32 - 5041]));
+    // 2 more than 225 is less than 256; 2 more than 5041/16 is not the lesser
+    assert_eq!(both(hollow, Kind::Cut), whole([16 * 227, 3969]));
+    // of -256 and 2 less 225, of -3969/16 and 2 less 5041/16
+    assert_eq!(both([-625, 625], Kind::Cut), whole([-16 * 256, 32 - 5041]));
 }
 
 /// At (1, 0, 0) a point of r 512 has q 65,535 and 65,536, one of r 3 has 58,254
