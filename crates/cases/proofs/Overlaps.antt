@@ -76,7 +76,7 @@ rows =
     ∷ (bounds (part (large ++ negative ++ operator 4)) (at (pos 1) (pos 0)), lowHigh (negℤ (pos 3393645025)) (negℤ (pos 3393528516)))
     -- cut: 8,589,934,592 less the small one's high, and less its low
     ∷ (bounds (part (large ++ small ++ operator 5)) (at (pos 1) (pos 0)), lowHigh (pos 5196289567) (pos 5196406076))
-    -- by a negative weight, which adds
+    -- by a negative weight: 8,589,934,592 and the sizes of its bounds
     ∷ (bounds (part (large ++ negative ++ operator 5)) (at (pos 1) (pos 0)), lowHigh (pos 11983463108) (pos 11983579617))
     -- the other way round
     ∷ (bounds (part (small ++ large ++ operator 5)) (at (pos 1) (pos 0)), lowHigh (negℤ (pos 8589934592)) (negℤ (pos 8589410308)))

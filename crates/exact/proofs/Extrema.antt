@@ -67,10 +67,12 @@ pos-min a b = elim (min-is (pos a) (pos b)) [
   | inr h ↦ h .1 ∙ ap pos (sym (min-eq-right (pos-reflect (h .0))))
 ]
 
+natAbs-picked : {R : ℤ → ℤ → Type 0} {f : ℤ → ℤ → ℤ} → Picks R f → (a b : ℤ) → natAbs (f a b) ≤ max (natAbs a) (natAbs b)
+natAbs-picked p a b =
+    picked p (λ (z : ℤ). natAbs z ≤ max (natAbs a) (natAbs b)) a b (le-max-left (natAbs a) (natAbs b)) (le-max-right (natAbs a) (natAbs b))
+
 pub natAbs-max : (a b : ℤ) → natAbs (maxℤ a b) ≤ max (natAbs a) (natAbs b)
-natAbs-max a b =
-    picked max-picks (λ (z : ℤ). natAbs z ≤ max (natAbs a) (natAbs b)) a b (le-max-left (natAbs a) (natAbs b)) (le-max-right (natAbs a) (natAbs b))
+natAbs-max = natAbs-picked max-picks
 
 pub natAbs-min : (a b : ℤ) → natAbs (minℤ a b) ≤ max (natAbs a) (natAbs b)
-natAbs-min a b =
-    picked min-picks (λ (z : ℤ). natAbs z ≤ max (natAbs a) (natAbs b)) a b (le-max-left (natAbs a) (natAbs b)) (le-max-right (natAbs a) (natAbs b))
+natAbs-min = natAbs-picked min-picks

@@ -1,7 +1,7 @@
 -- Overlaps and cut-outs (document 02, P1): where the value that an operator makes is at or above the iso-value, that is, solid. Of greater: where
--- either operand is. Of lesser, an overlap: where both are. Of cut, which "keeps the earlier operand and removes the later": where the earlier is, and
--- the later is not above the iso-value. Said of two values (`greater-solid` and its like), and of the exact fields of two trees of nodes and of the
--- tree that an operator makes of them (`greater-part` and its like).
+-- either operand is. Of lesser, an overlap: where both are. Of cut, which "keeps the earlier operand and removes the later": where the earlier is,
+-- and the later is not above the iso-value. Said of two values (`greater-solid` and its like), and of the exact fields of two trees of nodes and of
+-- the tree that an operator makes of them (`greater-part` and its like).
 use mathlib.Core.Path.{_≡_, refl, ap, _∙_}
 use mathlib.Core.Logic.{_↔_, _⊎_, inl, inr}
 use mathlib.Core.List.{List, [], _∷_, _++_}
