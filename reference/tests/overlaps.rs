@@ -245,7 +245,7 @@ fn a_cut_inside_a_sum_and_a_lesser() {
 }
 
 /// Two points of w 4,096 have 8,192 u^2, which is at least iso 4,096 where u is
-/// at least 0.7072: within 277.09 for r 512, 69.27 for r 128, met in the ticks
+/// at least 0.7071: within 277.09 for r 512, 69.27 for r 128, met in the ticks
 /// 373 and 650, 477 and 546.
 #[test]
 fn a_bore_at_the_largest_iso_value() {
