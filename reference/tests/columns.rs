@@ -133,7 +133,7 @@ fn samples_of_refused_rays() {
 fn samples_where_a_tick_is_decided() {
     let mut random = SplitMix64::new(123);
     let mut ticks = Ticks::default();
-    for i in 0..3_000 {
+    for i in 0..4_000 {
         let part = match i % 30 {
             29 => lattice([5, 5, 6]),
             _ => draw(&mut random, i),
@@ -143,7 +143,7 @@ fn samples_where_a_tick_is_decided() {
     }
     println!("{ticks:?}");
     assert!(ticks.empty > 100_000 && ticks.inside > 100_000, "{ticks:?}");
-    assert!(ticks.crossing.iter().all(|&n| n > 3_000), "{ticks:?}");
+    assert!(ticks.crossing.iter().all(|&n| n > 5_000), "{ticks:?}");
 }
 
 /// Columns across a strut that stands where one tick ends and the next

@@ -191,7 +191,7 @@ fn small_radii() {
         weight: (-9, 40),
         iso: (1, 5),
     };
-    run(32, &shape, 60, 1).assert_more(1_500, 100);
+    run(32, &shape, 70, 1).assert_more(2_000, 100);
 }
 
 #[test]
@@ -203,7 +203,7 @@ fn large_weights() {
         weight: (-4096, 4096),
         iso: (1, 900),
     };
-    run(33, &shape, 60, 1).assert_more(500, 50);
+    run(33, &shape, 60, 1).assert_more(1_000, 50);
 }
 
 #[test]

@@ -38,7 +38,7 @@ const CLASSES: [(&str, &[&str], u32); 14] = [
             "sum of a cut",
             "lesser of a cut",
         ],
-        100,
+        80,
     ),
     ("part", &["negative weight"], 1_500),
     ("part", &["511 records"], 20),
