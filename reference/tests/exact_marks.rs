@@ -174,7 +174,7 @@ fn few_points() {
         weight: (-6, 30),
         iso: (1, 6),
     };
-    run(31, &shape, 40, 1).assert_more(1_500, 80);
+    run(31, &shape, 120, 1).assert_more(10_000, 200);
 }
 
 #[test]
