@@ -1,8 +1,9 @@
-//! Repeatable pseudo-random trees, rays and damaged files for tests.
+//! Repeatable pseudo-random trees, rays, damaged files and totals for tests.
 
 use crate::field::Ray;
 use crate::part::{operator_record, point_record, FileBuilder, Kind, Node, Part};
 use crate::part::{FILE_MARK, OPERATORS, REACH};
+use crate::totals::Totals;
 
 /// The SplitMix64 generator.
 #[derive(Clone, Debug)]
@@ -458,5 +459,18 @@ pub fn mutate(random: &mut SplitMix64, file: &mut Vec<u8>) {
                 file.splice(at..at, copy);
             }
         }
+    }
+}
+
+/// Totals, each near the ceiling once in four.
+pub fn totals(random: &mut SplitMix64) -> Totals {
+    let [casts, probes, refusals] = [(); 3].map(|()| match random.one_in(4) {
+        true => u32::MAX - random.between(0, 40) as u32,
+        false => random.next_u64() as u32,
+    });
+    Totals {
+        casts,
+        probes,
+        refusals,
     }
 }

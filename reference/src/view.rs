@@ -54,11 +54,39 @@ impl ViewerHit {
             | ViewerHit::Spent { probes, .. } => Some(probes),
         }
     }
+
+    /// The first hit that it says, with its place as a tick.
+    pub fn in_ticks(self) -> FirstHit {
+        let tick = |place: f32| (f64::from(place) * 1024.0) as u32;
+        match self {
+            ViewerHit::Refused(number) => FirstHit::Refused(number),
+            ViewerHit::Hit {
+                entry,
+                mark,
+                probes,
+            } => FirstHit::Hit {
+                tick: tick(entry),
+                mark,
+                probes,
+            },
+            ViewerHit::Clear { probes } => FirstHit::Clear { probes },
+            ViewerHit::Spent { reached, probes } => FirstHit::Spent {
+                tick: tick(reached),
+                probes,
+            },
+        }
+    }
 }
 
 /// The viewer's first hit: questions 1 to 11, then 15, then 13.
 pub fn viewer_first_hit(file: &[u8], view: ViewRay, budget: u32) -> ViewerHit {
     viewer_first_hit_by::<TickField>(file, view, budget)
+}
+
+/// The viewer's ray for a ray in steps.
+pub fn in_millimetres(ray: &Ray) -> ViewRay {
+    let [a, b] = [ray.a, ray.b].map(|end| end.map(|c| c as f32 / 64.0));
+    ViewRay { a, b }
 }
 
 /// The viewer's first hit by the bounds named.

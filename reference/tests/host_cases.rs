@@ -11,7 +11,7 @@ use reference::cast::{Column, FirstHit, FullCast, Mark};
 use reference::field::{Bounds, Ray};
 use reference::generate::fault;
 use reference::part::FileBuilder;
-use reference::view::ViewRay;
+use reference::view::in_millimetres;
 use std::fs;
 use std::path::{Path, PathBuf};
 use std::process::Command;
@@ -230,12 +230,6 @@ fn most_records() -> (Vec<u8>, Ray) {
         file = file.point(900, [i, -i, 2], w).sum();
     }
     (file.build(), at_y(300))
-}
-
-/// The ray in millimetres.
-fn in_millimetres(ray: &Ray) -> ViewRay {
-    let [a, b] = [ray.a, ray.b].map(|end| end.map(|c| c as f32 / 64.0));
-    ViewRay { a, b }
 }
 
 #[test]

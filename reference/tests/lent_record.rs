@@ -16,13 +16,13 @@ compile_error!(
     "target/staticlib/libtesthost.a is missing: build it at the repository's root by: rt staticlib testhost"
 );
 
-use expected::{answered, in_millimetres, number_and_place};
+use expected::{answered, number_and_place};
 use floats::changed;
 use guards::in_guards;
 use reference::field::Ray;
-use reference::generate::{part_of_form, SplitMix64, FORMS};
+use reference::generate::{self, part_of_form, SplitMix64, FORMS};
 use reference::totals::Totals;
-use reference::view::{viewer_first_hit, ViewRay};
+use reference::view::{in_millimetres, viewer_first_hit, ViewRay};
 use requests::{file, ray, GROUPS};
 
 #[link(name = "testhost", kind = "static")]
@@ -94,19 +94,6 @@ fn view(file: &[u8], ray: &ViewRay, budget: u32, totals: &mut [u32; 3]) -> (u64,
     (number, place[0])
 }
 
-/// Totals, each near the ceiling once in four.
-fn drawn(random: &mut SplitMix64) -> Totals {
-    let [casts, probes, refusals] = [(); 3].map(|()| match random.one_in(4) {
-        true => u32::MAX - random.between(0, 40) as u32,
-        false => random.next_u64() as u32,
-    });
-    Totals {
-        casts,
-        probes,
-        refusals,
-    }
-}
-
 fn three(totals: Totals) -> [u32; 3] {
     [totals.casts, totals.probes, totals.refusals]
 }
@@ -157,7 +144,7 @@ fn the_record_and_the_place_are_the_references() {
         let ray = ray(&mut random, &part);
         let budget = random.pick(&[0, 1, 5, 14, 40, 2047, u32::MAX]);
         let room = random.pick(&[0, 127, 128, 1023, 1024, 1024, 1024, 1200]);
-        let totals = drawn(&mut random);
+        let totals = generate::totals(&mut random);
         let which = i % 4;
         if which == 3 {
             let ray = changed(&mut random, &in_millimetres(&ray)).0;

@@ -12,14 +12,14 @@ mod guards;
 #[path = "common/worked.rs"]
 mod worked;
 
-use calls::{check, in_millimetres, place_bounds, Host};
+use calls::{check, place_bounds, Host};
 use common::printed;
 use reference::cast::{Column, FirstHit, FullCast};
 use reference::field::{field_on_ray, Bounds, Ray};
 use reference::fraction::Fraction;
 use reference::lister::{input, list};
 use reference::part::{operator_record, read, FileBuilder, Kind, OPERATORS, RECORD};
-use reference::view::ViewerHit;
+use reference::view::{in_millimetres, ViewerHit};
 use worked::{at_y, file_k, AXIS};
 
 /// 1 in the units of bounds.

@@ -8,11 +8,11 @@ mod requests;
 #[path = "common/worked.rs"]
 mod worked;
 
-use counted::{call, called, in_millimetres, view, viewed};
+use counted::{call, called, view, viewed};
 use reference::field::Ray;
 use reference::generate::{part_of_form, SplitMix64, FORMS};
 use reference::totals::Totals;
-use reference::view::ViewRay;
+use reference::view::{in_millimetres, ViewRay};
 use requests::{file, ray, GROUPS};
 use std::cmp::Ordering;
 use worked::{at_y, file_k, AXIS};

@@ -1,6 +1,6 @@
 //! The viewer's floats and its first hit.
 
-use reference::cast::{first_hit, FirstHit};
+use reference::cast::first_hit;
 use reference::field::{ExactField, Ray};
 use reference::generate::{self, Shape, SplitMix64, STYLES};
 use reference::part::FileBuilder;
@@ -165,28 +165,6 @@ fn order_of_questions() {
     assert_eq!(refused, ViewerHit::Refused(11));
 }
 
-/// The viewer's answer in the terms of the first hit.
-fn as_first_hit(hit: ViewerHit) -> FirstHit {
-    let tick = |float: f32| (f64::from(float) * 1024.0) as u32;
-    match hit {
-        ViewerHit::Refused(number) => FirstHit::Refused(number),
-        ViewerHit::Clear { probes } => FirstHit::Clear { probes },
-        ViewerHit::Hit {
-            entry,
-            mark,
-            probes,
-        } => FirstHit::Hit {
-            tick: tick(entry),
-            mark,
-            probes,
-        },
-        ViewerHit::Spent { reached, probes } => FirstHit::Spent {
-            tick: tick(reached),
-            probes,
-        },
-    }
-}
-
 #[test]
 fn equals_the_first_hit() {
     let mut random = SplitMix64::new(22);
@@ -207,7 +185,7 @@ fn equals_the_first_hit() {
         };
         for budget in [0, 1, 5, 12, 20, 2047] {
             let quick = viewer_first_hit(&file, view, budget);
-            assert_eq!(as_first_hit(quick), first_hit(&file, &ray, budget));
+            assert_eq!(quick.in_ticks(), first_hit(&file, &ray, budget));
             let exact = viewer_first_hit_by::<ExactField>(&file, view, budget);
             assert_eq!(exact, quick);
         }

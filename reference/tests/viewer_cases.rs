@@ -8,14 +8,14 @@ mod floats;
 #[path = "common/worked.rs"]
 mod worked;
 
-use counted::{in_millimetres, view};
+use counted::view;
 use floats::{OTHER, SPECIAL};
 use reference::cast::Mark;
 use reference::field::Ray;
 use reference::generate::{fault, lattice};
 use reference::part::FileBuilder;
 use reference::totals::Totals;
-use reference::view::{ViewRay, ViewerHit};
+use reference::view::{in_millimetres, ViewRay, ViewerHit};
 use worked::{at_y, file_k, AXIS};
 
 /// Budgets of a hit's probes and about them, and about the most probes.

@@ -9,13 +9,13 @@ mod floats;
 #[path = "common/requests.rs"]
 mod requests;
 
-use counted::{in_millimetres, view};
+use counted::view;
 use floats::changed;
 use reference::cast::Mark;
 use reference::generate::{cancelling_or_bored, lattice, part_of_form, SplitMix64, FORMS};
 use reference::part::{read, FileBuilder, Part};
 use reference::totals::Totals;
-use reference::view::{viewer_first_hit, ViewRay, ViewerHit};
+use reference::view::{in_millimetres, viewer_first_hit, ViewRay, ViewerHit};
 use requests::{file, ray, GROUPS};
 
 /// What the requests covered.

@@ -28,8 +28,8 @@ use Rattle.field.proofs.Enclosure.{enclosure}
 use Rattle.field.proofs.Subtrees.{solidWith, joined-field}
 
 -- at or above the iso-value, and at or below it
-abbrev Solid : ℕ → Fraction → Type 0
-Solid iso x = pos iso over 1 ≼ x
+abbrev IsSolid : ℕ → Fraction → Type 0
+IsSolid iso x = pos iso over 1 ≼ x
 
 abbrev NotAbove : ℕ → Fraction → Type 0
 NotAbove iso x = x ≼ pos iso over 1
@@ -37,23 +37,23 @@ NotAbove iso x = x ≼ pos iso over 1
 -- ---- two values
 
 module _ (iso : ℕ) (x y : Fraction) (p : Proper x) (q : Proper y) where
-  pub greater-solid : Solid iso (joinFractions iso Operator.greater x y) ↔ (Solid iso x ⊎ Solid iso y)
+  pub greater-solid : IsSolid iso (joinFractions iso Operator.greater x y) ↔ (IsSolid iso x ⊎ IsSolid iso y)
   unfolding joinFractions
   greater-solid = (
     λ h. elim (greater-is x y) [ inl e ↦ inr (rw (e .1) at h) | inr e ↦ inl (rw (e .1) at h) ],
     λ s. elim s [ inl h ↦ ≼-trans p h (later-l greater-picks x y) | inr h ↦ ≼-trans q h (later-r greater-picks x y) ],
   )
 
-  pub lesser-solid : Solid iso (joinFractions iso Operator.lesser x y) ↔ (Solid iso x × Solid iso y)
+  pub lesser-solid : IsSolid iso (joinFractions iso Operator.lesser x y) ↔ (IsSolid iso x × IsSolid iso y)
   unfolding joinFractions
   lesser-solid =
       let proper = picked lesser-picks Proper x y p q in (
         λ h. (≼-trans proper h (later-l lesser-picks x y), ≼-trans proper h (later-r lesser-picks x y)),
-        λ h. picked lesser-picks (Solid iso) x y (h .0) (h .1),
+        λ h. picked lesser-picks (IsSolid iso) x y (h .0) (h .1),
       )
 
 -- twice the iso-value minus y
-complement-solid : (iso : ℕ) (y : Fraction) → Solid iso (complement iso y) ↔ NotAbove iso y
+complement-solid : (iso : ℕ) (y : Fraction) → IsSolid iso (complement iso y) ↔ NotAbove iso y
 unfolding less
 complement-solid iso y = (
   λ h. record {
@@ -64,7 +64,8 @@ complement-solid iso y = (
   },
 )
 
-pub cut-solid : (iso : ℕ) (x y : Fraction) → Proper x → Proper y → Solid iso (joinFractions iso Operator.cut x y) ↔ (Solid iso x × NotAbove iso y)
+pub cut-solid : (iso : ℕ) (x y : Fraction) → Proper x → Proper y
+    → IsSolid iso (joinFractions iso Operator.cut x y) ↔ (IsSolid iso x × NotAbove iso y)
 unfolding joinFractions
 cut-solid iso x y p q =
     let both = lesser-solid iso x (complement iso y) p (less-proper (pos (2 * iso)) y q) in
@@ -87,14 +88,14 @@ module _ (k : Kernel) (law : Lawful k) (iso : ℕ) (es ls : List Node) (te : par
   unfolding isPoint
   whole kind f e = joined-field k iso es ls o te tl (rw e f) ray (x .n) (x .m) ∙ ap (λ (z : ℤ). joinFractions iso (operatorOf z) (at es) (at ls)) e
 
-  pub greater-part : o .kind ≡ pos 3 → Solid iso (at (es ++ (ls ++ o ∷ []))) ↔ (Solid iso (at es) ⊎ Solid iso (at ls))
+  pub greater-part : o .kind ≡ pos 3 → IsSolid iso (at (es ++ (ls ++ o ∷ []))) ↔ (IsSolid iso (at es) ⊎ IsSolid iso (at ls))
   unfolding operatorOf
   greater-part e = rw (whole (pos 3) refl e) (greater-solid iso (at es) (at ls) (proper es te) (proper ls tl))
 
-  pub lesser-part : o .kind ≡ pos 4 → Solid iso (at (es ++ (ls ++ o ∷ []))) ↔ (Solid iso (at es) × Solid iso (at ls))
+  pub lesser-part : o .kind ≡ pos 4 → IsSolid iso (at (es ++ (ls ++ o ∷ []))) ↔ (IsSolid iso (at es) × IsSolid iso (at ls))
   unfolding operatorOf
   lesser-part e = rw (whole (pos 4) refl e) (lesser-solid iso (at es) (at ls) (proper es te) (proper ls tl))
 
-  pub cut-part : o .kind ≡ pos 5 → Solid iso (at (es ++ (ls ++ o ∷ []))) ↔ (Solid iso (at es) × NotAbove iso (at ls))
+  pub cut-part : o .kind ≡ pos 5 → IsSolid iso (at (es ++ (ls ++ o ∷ []))) ↔ (IsSolid iso (at es) × NotAbove iso (at ls))
   unfolding operatorOf
   cut-part e = rw (whole (pos 5) refl e) (cut-solid iso (at es) (at ls) (proper es te) (proper ls tl))

@@ -1,4 +1,5 @@
-// A record of the part file: the numbers in its bytes, its node, and the questions about it (document 01, "The part file"; questions 6 to 10).
+// A record of the part file: the numbers in its bytes, its node, and the questions about it (document 01, "The part file", questions 6 to 10;
+// document 02, P1).
 
 use exact::both;
 use exact::is_between_signed;

@@ -1,14 +1,13 @@
 //! Requests drawn at random.
 
 use crate::damaged::damaged;
-use crate::expected::in_millimetres;
 use crate::floats::changed;
 use crate::request::{casting, is_counted, need, six};
 use crate::request::{Request, BOUNDS, CHECK, COLUMN, COUNTED, FIRST_HIT, FULL_CAST, VIEW};
 use crate::requests;
-use reference::generate::{cancelling_or_bored, part_of_form, SplitMix64, FORMS};
+use reference::generate::{cancelling_or_bored, part_of_form, totals, SplitMix64, FORMS};
 use reference::part::{FileBuilder, Part};
-use reference::totals::Totals;
+use reference::view::in_millimetres;
 
 /// The calls, each as often as it is drawn.
 const DRAWN: [u8; 16] = [
@@ -92,18 +91,5 @@ fn room(random: &mut SplitMix64, call: u8) -> usize {
         (_, 0) => 0,
         (BOUNDS, need) => need,
         (_, need) => requests::room(random, need).1,
-    }
-}
-
-/// Totals, each near the ceiling once in four.
-pub fn totals(random: &mut SplitMix64) -> Totals {
-    let [casts, probes, refusals] = [(); 3].map(|()| match random.one_in(4) {
-        true => u32::MAX - random.between(0, 40) as u32,
-        false => random.next_u64() as u32,
-    });
-    Totals {
-        casts,
-        probes,
-        refusals,
     }
 }

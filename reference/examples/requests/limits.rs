@@ -1,10 +1,9 @@
 //! Requests on both sides of each limit of the questions, all else accepted: of
 //! each pair the first is accepted, the second refused.
 
-use crate::drawn::totals;
 use crate::request::{casting, is_counted, need, six};
 use crate::request::{Request, BOUNDS, CALLS, COLUMN, FULL_CAST, VIEW};
-use reference::generate::SplitMix64;
+use reference::generate::{totals, SplitMix64};
 use reference::part::{operator_record, point_record, FileBuilder};
 use reference::part::{FILE_MARK, OPERATORS, RECORD};
 

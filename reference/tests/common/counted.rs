@@ -10,7 +10,6 @@ mod expected;
 #[path = "guards.rs"]
 mod guards;
 
-pub use expected::in_millimetres;
 use expected::{answered, number_and_place};
 use guards::in_guards;
 use reference::field::Ray;

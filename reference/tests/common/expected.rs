@@ -86,13 +86,3 @@ pub fn bounds_number(file: &[u8], at: [i32; 3], bytes: &mut [u8]) -> u64 {
         Err(number) => u64::from(number),
     }
 }
-
-/// A ray in millimetres.
-#[allow(dead_code)]
-pub fn in_millimetres(ray: &Ray) -> ViewRay {
-    let millimetres = |end: [i32; 3]| end.map(|c| c as f32 / 64.0);
-    ViewRay {
-        a: millimetres(ray.a),
-        b: millimetres(ray.b),
-    }
-}

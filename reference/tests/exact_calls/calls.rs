@@ -15,38 +15,6 @@ use reference::view::{viewer_first_hit_by, ViewRay, ViewerHit};
 /// What the bounds' two numbers are before a call.
 const BEFORE: [i64; 2] = [-7, 7];
 
-/// A ray in millimetres.
-pub fn in_millimetres(ray: &Ray) -> ViewRay {
-    let millimetres = |end: [i32; 3]| end.map(|c| c as f32 / 64.0);
-    ViewRay {
-        a: millimetres(ray.a),
-        b: millimetres(ray.b),
-    }
-}
-
-/// The number of a viewer's answer: that of the first hit at its place.
-fn viewer_number(answer: ViewerHit) -> u64 {
-    let tick = |place: f32| (f64::from(place) * 1024.0) as u32;
-    let hit = match answer {
-        ViewerHit::Refused(number) => FirstHit::Refused(number),
-        ViewerHit::Hit {
-            entry,
-            mark,
-            probes,
-        } => FirstHit::Hit {
-            tick: tick(entry),
-            mark,
-            probes,
-        },
-        ViewerHit::Clear { probes } => FirstHit::Clear { probes },
-        ViewerHit::Spent { reached, probes } => FirstHit::Spent {
-            tick: tick(reached),
-            probes,
-        },
-    };
-    hit.number()
-}
-
 /// A host with its running totals.
 #[derive(Default)]
 pub struct Host {
@@ -127,7 +95,7 @@ impl Host {
         let plain = entries::viewer_first_hit(&copy, ray, budget);
         let totals = &mut self.lent;
         let counted = entries::viewer_first_hit_counted(&copy, ray, budget, totals);
-        let expected = [viewer_number(answer); 2];
+        let expected = [answer.in_ticks().number(); 2];
         let ends = [ray.a, ray.b].map(|end| end.map(f32::to_bits));
         assert_eq!([plain, counted], expected, "{ends:08x?} {budget} {file:?}");
         assert_eq!(copy, file);

@@ -1,11 +1,11 @@
 //! Every case of "Rays and places tried", in the words of document 01.
 
-use crate::calls::{check, in_millimetres, place_bounds, Host};
+use crate::calls::{check, place_bounds, Host};
 use crate::worked::{at_y, file_k, AXIS};
 use reference::cast::{Column, FirstHit, FullCast, Mark};
 use reference::field::{Bounds, Ray};
 use reference::part::FileBuilder;
-use reference::view::ViewerHit;
+use reference::view::{in_millimetres, ViewerHit};
 
 fn single(r: u16, w: i16) -> Vec<u8> {
     FileBuilder::new(1).point(r, [0; 3], w).build()

@@ -2,7 +2,7 @@
 //! files, rays of all styles, budgets and rooms at their limits. What was
 //! covered is counted, printed and asserted.
 
-use crate::calls::{check, in_millimetres, place_bounds, Host};
+use crate::calls::{check, place_bounds, Host};
 use crate::coverage::Coverage;
 use crate::floats::changed;
 use crate::requests::{budget, file, ray, room, GROUPS};
@@ -10,6 +10,7 @@ use reference::cast::accept;
 use reference::field::Ray;
 use reference::generate::{cancelling_or_bored, part_of_form, SplitMix64, FORMS};
 use reference::part::Part;
+use reference::view::in_millimetres;
 
 /// Scenes, a file and a ray each, of each of `GROUPS`, and of parts that nearly
 /// cancel or are bored.
