@@ -61,16 +61,16 @@ module _ (l : List ℤ) (i : ℕ) (buffer : List ℕ) (place : ℕ) where
     written-part : WrittenPart l i buffer place end (bufferLeft l i buffer place)
     written-part = record {
       checked =
-      ap checkFile file-is ∙ part-accepted (facts .writable) (take place buffer) short
+          ap checkFile file-is ∙ part-accepted (facts .writable) (take place buffer) short
           ∙ ap (λ (n : ℕ). Accepted (record { nodes = n; iso = i })) (given-length l);
       read =
-      ap (λ (f : List ℕ). numbers (nodes f)) file-is ∙ ap numbers (part-nodes (facts .writable) (take place buffer) short)
+          ap (λ (f : List ℕ). numbers (nodes f)) file-is ∙ ap numbers (part-nodes (facts .writable) (take place buffer) short)
           ∙ numbers-given l (facts .count .whole);
       before-kept =
-      ap (take place) (buffer-written l i buffer place ok ∙ append-assoc (take place buffer) (partBytes (given l) i) (drop end buffer))
+          ap (take place) (buffer-written l i buffer place ok ∙ append-assoc (take place buffer) (partBytes (given l) i) (drop end buffer))
           ∙ take-at (take place buffer) (partBytes (given l) i ++ drop end buffer) place length-lead;
       after-kept =
-      ap (drop end) (buffer-written l i buffer place ok)
+          ap (drop end) (buffer-written l i buffer place ok)
           ∙ drop-at (take place buffer ++ partBytes (given l) i) (drop end buffer) end length-file;
       within = facts .within;
       short = facts .short;

@@ -202,7 +202,16 @@ fn put_trailer(count: usize, iso: usize, out: &mut [u8], to: usize)
     ensures { λ _. ⌜ now (out .exit) ≡ sets (now (out .entry)) to (trailerBytes count iso) ⌝ }
 {
     let distance = 12 * count + 12;
-    put_words(iso, 1, distance % 65536, distance / 65536, 0x5254, 0x4545, out, to);
+    put_words(
+        iso,
+        1,
+        distance % 65536,
+        distance / 65536,
+        0x5254,
+        0x4545,
+        out,
+        to,
+    );
 }
 
 // ---- the call

@@ -9,6 +9,5 @@ fenalukki-read-spec =
     tie.close
     (tie.spec
     (λ c κs. search needs)
-    (λ c κs. check-number-fits _ _ (c .before .before .load .ensures .1 .0))
-    (λ c. search needs)
-    (λ c. host-read _ _ _ (c .before .before .before .load .ensures) (c .check-number .ensures)))
+    (λ c κs. check-number-fits _ _ (c .load .ensures .1 .0))
+    (λ c. host-read _ _ _ (c .before .load .ensures) (c .check-number .ensures)))

@@ -12,5 +12,6 @@ write-number-spec =
     (λ c. search needs)
     (λ c. search needs)
     (λ c. omega (arith, rw (c .before .answer2 .given .1) at (c .before .before .before .pre)))
+    (λ c. omega (arith, rw (c .before .answer2 .given .1) at (c .before .before .before .pre)))
     (λ c. rw (c .before .answer .given .1))
     (λ c. rw (c .before .answer2 .given .1)))
