@@ -103,8 +103,8 @@ rows =
 
 pub asked : map (λ r. firstNo (writerQuestions (r .numbers) (r .iso) (r .room) (r .place))) rows ≡ map (λ r. r .answer) rows
 unfolding
-    rows points firstNo isPoint kindKnown coordinate inRange forPoint forOperator heldAfter nodeQuestions recordQuestions recordsQuestions nodeIn nodesIn
-    given blank recordOf size counted hasRoom writerQuestions
+    rows points firstNo isPoint kindKnown coordinate inRange forPoint forOperator heldAfter nodeQuestions recordQuestions recordsQuestions nodeIn
+    nodesIn given blank recordOf size counted hasRoom writerQuestions
 asked = refl
 
 -- ---- the bytes
@@ -183,9 +183,9 @@ octets (b ∷ later) e (suc k) h = octets later (both-true (ltb b 256) (allBelow
 
 read-K : ReadFrom fileK pointK 1 24
 unfolding
-    allBelow nodeIn nodesIn given bits16 u16Bytes u32Bytes i16Bytes recordBytes recordsBytes size trailerBytes partBytes u16 u32 i16 hasBytes zeros firstNo
-    isPoint kindKnown coordinate inRange forPoint forOperator heldAfter nodeAt zeroBytes recordAt nodeQuestions recordQuestions iso version distance
-    marked trailerQuestions start count recordsFrom records nodesFrom nodes recordsQuestions fileQuestions answerOf checkFile numbers
+    allBelow nodeIn nodesIn given bits16 u16Bytes u32Bytes i16Bytes recordBytes recordsBytes size trailerBytes partBytes u16 u32 i16 hasBytes zeros
+    firstNo isPoint kindKnown coordinate inRange forPoint forOperator heldAfter nodeAt zeroBytes recordAt nodeQuestions recordQuestions iso version
+    distance marked trailerQuestions start count recordsFrom records nodesFrom nodes recordsQuestions fileQuestions answerOf checkFile numbers
 read-K = record {
   octets = octets fileK refl;
   accepted = refl;
