@@ -1,7 +1,7 @@
-/* A tour of fenalukki.h: writes a part of three points, reads it back and hands
- * it to each of the twelve entries, has its points joined by other operators, and
- * each refusal number answered once. What it prints is in tour.out. Lengths are
- * in steps of 1/64 mm but for the viewer's, which are in millimetres. */
+/* A tour of fenalukki.h: writes a part of three points, makes each of the twelve
+ * calls with it, has its points joined by other operators, and each refusal
+ * number answered once. What it prints is in tour.out. Lengths are in steps of
+ * 1/64 mm but for the viewer's, which are in millimetres. */
 #include "fenalukki.h"
 
 #include <stdio.h>
@@ -90,23 +90,17 @@ static void show_part(const struct part *part)
            FENALUKKI_FILE_VERSION, (unsigned long)trailer + FENALUKKI_TRAILER_BYTES);
 }
 
-/* 2. The check of a file. */
+/* 2. The check of a file. Returns 1 if it passes. */
 
-/* Returns 1 if the file passes. */
-static int print_check(const uint8_t *file, size_t length)
+static int show_check(const struct part *part)
 {
-    uint64_t number = fenalukki_check(file, length);
+    uint64_t number = fenalukki_check(part->bytes, part->length);
 
+    printf("\n2. Check: ");
     if (is_refused(number))
         return 0;
     printf("%d nodes, iso %d\n", fenalukki_nodes(number), fenalukki_iso(number));
     return 1;
-}
-
-static int show_check(const struct part *part)
-{
-    printf("\n2. Check: ");
-    return print_check(part->bytes, part->length);
 }
 
 /* 3. Writes of what is read, at several places of a larger buffer. Bytes before

@@ -1,4 +1,4 @@
-//! The desk tool: parts read and written again, drawings in every clothing, each mistake with its line and its words, statuses.
+//! The desk tool: parts read and written again, drawings written in other ways, each mistake with its line and its words, statuses.
 
 use super::{c99, read, root, temporary, text};
 use reference::generate::{self, Shape, SplitMix64};
@@ -149,8 +149,8 @@ fn generated_parts_are_read_and_written_again() {
 
 /// Blanks, blank lines, comments, signs and line ends that change nothing.
 #[test]
-fn drawings_in_other_clothing() {
-    let desk = desk("clothing");
+fn drawings_written_in_other_ways() {
+    let desk = desk("ways");
     let plain = "iso 768\npoint 640 -320 -256 0 1024\npoint 640 320 7 0 -9\nsum\n";
     let part = desk.part_of(plain.as_bytes());
     assert!(part.is_ok(), "{part:?}");
