@@ -110,8 +110,9 @@
  *   state, uses no heap and no global data, and writes nothing but its buffer,
  *   bounds, totals or, in a read, numbers. Calls may run at the same time on
  *   several threads, on one file too, as long as what they write differs.
- *   A call needs about 26 KiB of stack, measured on the compiled archive; 64 KiB
- *   are tested to be enough.
+ *   A cast or the bounds at a place need about 26 KiB of stack, a check, a read
+ *   and a write less than 1 KiB, measured on the compiled archive; 64 KiB are
+ *   tested to be enough.
  *
  * The number that a call returns
  *
