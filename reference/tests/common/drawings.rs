@@ -9,7 +9,7 @@ use reference::write::{numbers, NODE_NUMBERS};
 pub type Six = [i32; NODE_NUMBERS];
 
 /// What a writer is given.
-#[derive(Clone, Debug, PartialEq, Eq)]
+#[derive(Clone, Debug, Default, PartialEq, Eq)]
 pub struct Drawing {
     pub numbers: Vec<i32>,
     pub iso: u32,
@@ -26,6 +26,7 @@ impl Drawing {
     }
 
     /// The nodes added at the end.
+    #[allow(dead_code)]
     pub fn with(mut self, nodes: &[Six]) -> Drawing {
         self.numbers.extend(nodes.concat());
         self
