@@ -209,19 +209,19 @@ fn change_nodes(random: &mut SplitMix64, drawing: &mut Drawing) {
 /// bytes is 2^64 or more.
 pub fn placed(random: &mut SplitMix64, bytes: usize) -> (usize, usize) {
     let to_most = 65_536 - bytes.min(65_536);
-    let place = match random.between(0, 23) {
-        0..=7 => 0,
-        8..=15 => random.between(1, 300) as usize,
-        16 => random.between(0, 66_000) as usize,
-        17..=18 => to_most,
-        19 => to_most + 1,
+    let place = match random.between(0, 47) {
+        0..=17 => 0,
+        18..=34 => random.between(1, 300) as usize,
+        35 => random.between(0, 66_000) as usize,
+        36..=38 => to_most,
+        39 => to_most + 1,
         _ => far(random, bytes),
     };
     let end = place.wrapping_add(bytes).min(66_000);
     let room = match random.between(0, 9) {
         0..=3 => end,
         4..=6 => end + random.between(1, 300) as usize,
-        7 => end.max(random.pick(&[end, 65_535, 65_536, 65_537])),
+        7 => end.max(random.pick(&[end, end + 1, end + 12, end + 48, 65_536, 65_537])),
         8 => end.saturating_sub(random.pick(&[1, 1, 12, bytes])),
         _ => random.pick(&[0, bytes, bytes - 1]),
     };
