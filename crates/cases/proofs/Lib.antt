@@ -1,4 +1,5 @@
 pub mod Files
+pub mod Writing
 pub mod Rays
 pub mod Overlaps
 pub mod Floats

@@ -4,14 +4,14 @@ use Prim.Native.Nat.{ℕ}
 use mathlib.Core.Path.{_≡_, refl}
 use mathlib.Core.List.{List, [], _∷_, _++_}
 use mathlib.Core.Bool.{Bool, true, false}
-use Rattle.record.specs.Questions.{Question, firstNo}
+use Rattle.record.specs.Questions.{Question, firstNo, next}
 use Rattle.part.specs.File.{answerOf}
 use Rattle.part.specs.declared.Summary.{Summary}
 use Rattle.part.specs.declared.Checked.{Checked}
 use Rattle.part.specs.declared.Checked.the-variants.{Accepted, Refused}
 use Rattle.record.specs.declared.Verdict.{Verdict}
 use Rattle.record.specs.declared.Verdict.the-variants.{Yes, No}
-use Rattle.record.proofs.Questions.{next, firstNo-append, yes-append}
+use Rattle.record.proofs.Questions.{firstNo-append, yes-append}
 use Rattle.part.proofs.File.{answer-accepted}
 use Rattle.cast.specs.Questions.{alsoAsked}
 

@@ -25,9 +25,12 @@ use Rattle.view.specs.Demands.{ViewDemands}
 use Rattle.tally.specs.declared.Tally.{Tally}
 use Rattle.tally.specs.Counts.{castTally, hitTally, columnTally, viewTally}
 use Rattle.tally.proofs.Counts.{view-tally}
-use Rattle.numbers.specs.Numbers.{checkNumber, boundsNumber, boundsLeft, lentAfter}
-use Rattle.numbers.proofs.Numbers.{check-told, bounds-told}
-use Rattle.fenalukki.specs.Host.{HostCast, HostHit, HostColumn, HostCheck, HostBounds, HostView}
+use Rattle.nodes.specs.Numbers.{loaded}
+use Rattle.writer.specs.declared.Written.{Written}
+use Rattle.writer.specs.Writer.{writeAnswer, bufferLeft, WriteSays, Returned}
+use Rattle.numbers.specs.Numbers.{checkNumber, boundsNumber, boundsLeft, writeNumber, lentAfter}
+use Rattle.numbers.proofs.Numbers.{check-told, bounds-told, write-told}
+use Rattle.fenalukki.specs.Host.{HostCast, HostHit, HostColumn, HostCheck, HostBounds, HostView, HostRead, HostWrite}
 
 -- what is left in the lent totals, of an answer a that is b
 left-is : {A : Type 0} (tallyOf : A → Tally) (totals : List ℕ) {a b : A} {tally : Tally} {left : List ℕ}
@@ -71,6 +74,11 @@ module _ (file : List ℕ) where
   host-check a (answer, says) is =
       record { number-is = is ∙ ap checkNumber answer; told = rw is (check-told file a says); says = rw (← answer) says }
 
+  pub host-read : (a : Checked) (lent : List ℤ) {number : ℕ} {after : List ℤ}
+      → (a ≡ checkFile file) × (Says file a × (after ≡ loaded file lent)) → number ≡ checkNumber a → HostRead file lent number after
+  host-read a lent (answer, (says, numbers)) is =
+      record { number-is = is ∙ ap checkNumber answer; numbers = numbers; told = rw is (check-told file a says); says = rw (← answer) says }
+
   pub host-bounds : {p place : Position} → p ≡ place → (a : BoundsAnswer) (lent : List ℤ) {number : ℕ} {after : List ℤ}
       → (a ≡ placeBounds file p) × PlaceSays file p a → (number ≡ boundsNumber a) × (after ≡ boundsLeft a lent)
       → HostBounds file place lent number after
@@ -97,3 +105,15 @@ module _ (file : List ℕ) where
     view-counted totals is t =
         left-is viewTally totals (ap (viewOf (2 ^ exponent)) (answer ∙ ap (λ (ray : ViewRay). viewerTicks exponent file ray budget) same))
         (t ∙ sym (view-tally (2 ^ exponent) f)) is
+
+pub host-write : (l : List ℤ) (iso : ℕ) (lent : List ℕ) (place : ℕ) (a : Written) {number : ℕ} {after : List ℕ}
+    → (a ≡ writeAnswer l iso (length lent) place)
+    × ((after ≡ bufferLeft l iso lent place) × (WriteSays l iso lent place a after × Returned l iso lent place a after))
+    → number ≡ writeNumber a → HostWrite l iso lent place number after
+host-write l iso lent place a {number} {after} (answer, (bytes, (says, returned))) is = record {
+  number-is = is ∙ ap writeNumber answer;
+  bytes = bytes;
+  told = rw is (write-told l iso lent place after a says);
+  says = rw (← answer) says;
+  returned = rw (← answer) returned;
+}

@@ -18,7 +18,9 @@ use Rattle.cast.specs.Demands.{CastDemands, HitDemands, ColumnDemands}
 use Rattle.view.specs.declared.ViewRay.{ViewRay}
 use Rattle.view.specs.Call.{viewerTicks, viewerFirstHit}
 use Rattle.view.specs.Demands.{ViewDemands}
-use Rattle.numbers.specs.Numbers.{Told, checkNumber, boundsNumber, boundsLeft}
+use Rattle.nodes.specs.Numbers.{loaded}
+use Rattle.writer.specs.Writer.{writeAnswer, bufferLeft, WriteSays, Returned}
+use Rattle.numbers.specs.Numbers.{Told, checkNumber, boundsNumber, boundsLeft, writeNumber}
 
 -- a full cast's number, and the bytes afterwards in the buffer that was lent
 pub record HostCast (file : List ℕ) (ray : Ray) (budget : ℕ) (lent : List ℕ) (number : ℕ) (after : List ℕ) : Type 0 where
@@ -54,3 +56,18 @@ pub record HostBounds (file : List ℕ) (place : Position) (lent : List ℤ) (nu
 pub record HostView (file : List ℕ) (ray : ViewRay) (budget number : ℕ) : Type 0 where
   pub number-is : number ≡ hitNumber (viewerTicks exponent file ray budget)
   pub demands : ViewDemands file ray exponent budget (viewerFirstHit file ray budget)
+
+-- a read's number, which is a check's, and the array afterwards that was lent
+pub record HostRead (file : List ℕ) (lent : List ℤ) (number : ℕ) (after : List ℤ) : Type 0 where
+  pub number-is : number ≡ checkNumber (checkFile file)
+  pub numbers : after ≡ loaded file lent
+  pub told : Told 11 number
+  pub says : Says file (checkFile file)
+
+-- a write's number, and the bytes afterwards in the buffer that was lent
+pub record HostWrite (numbers : List ℤ) (iso : ℕ) (lent : List ℕ) (place number : ℕ) (after : List ℕ) : Type 0 where
+  pub number-is : number ≡ writeNumber (writeAnswer numbers iso (length lent) place)
+  pub bytes : after ≡ bufferLeft numbers iso lent place
+  pub told : Told 17 number
+  pub says : WriteSays numbers iso lent place (writeAnswer numbers iso (length lent) place) after
+  pub returned : Returned numbers iso lent place (writeAnswer numbers iso (length lent) place) after

@@ -5,6 +5,7 @@ use bounds::place_bounds;
 use cast::column;
 use cast::first_hit;
 use cast::full_cast;
+use nodes::load;
 use numbers::bounds_number;
 use numbers::cast_number;
 use numbers::check_number;
@@ -14,18 +15,20 @@ use numbers::hit_number;
 use numbers::place_at;
 use numbers::ray_of;
 use numbers::view_ray_of;
+use numbers::write_number;
 use part::check;
 use tally::cast_tally;
 use tally::column_tally;
 use tally::hit_tally;
 use view::viewer_ticks;
+use writer::write;
 ghost use mathlib.Core.Path.{_≡_};
 ghost use lib.ListN.{length};
 ghost use Rattle.cast.specs.Calls.{fullCast, firstHit, columnAnswer};
 ghost use Rattle.view.specs.Call.{viewerFirstHit};
 ghost use Rattle.tally.specs.Counts.{castTally, hitTally, columnTally, viewTally};
 ghost use Rattle.numbers.specs.Numbers.{placeAt, rayOf, viewRayOf, lentAfter};
-ghost use Rattle.fenalukki.specs.Host.{HostCast, HostHit, HostColumn, HostCheck, HostBounds, HostView};
+ghost use Rattle.fenalukki.specs.Host.{HostCast, HostHit, HostColumn, HostCheck, HostBounds, HostView, HostRead, HostWrite};
 
 // Full cast: 1,024 mark bytes, as far as the budget goes.
 #[no_mangle]
@@ -118,6 +121,24 @@ pub extern "C" fn fenalukki_viewer_first_hit(
     ensures { λ r. ⌜ HostView (now (file .entry)) (viewRayOf ax ay az bx by bz) budget r ⌝ }
 {
     hit_number(viewer_ticks(file, view_ray_of(ax, ay, az, bx, by, bz), budget))
+}
+
+// ---- part files, read and written
+
+// The check of a file, and its nodes' numbers.
+#[no_mangle]
+pub extern "C" fn fenalukki_read(file: &[u8], numbers: &mut [i32; 3066]) -> u64
+    ensures { λ r. ⌜ HostRead (now (file .entry)) (now (numbers .entry)) r (now (numbers .exit)) ⌝ }
+{
+    check_number(load(file, numbers))
+}
+
+// Records and trailer of a part file, from a place of the buffer on.
+#[no_mangle]
+pub extern "C" fn fenalukki_write(numbers: &[i32], iso: u32, buffer: &mut [u8], place: usize) -> u32
+    ensures { λ r. ⌜ HostWrite (now (numbers .entry)) iso (now (buffer .entry)) place r (now (buffer .exit)) ⌝ }
+{
+    write_number(write(numbers, iso, buffer, place))
 }
 
 // ---- the casting calls, lent the running totals

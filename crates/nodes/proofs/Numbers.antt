@@ -1,19 +1,18 @@
--- Laws of the nodes' numbers in a lent array: one node of n (`numbers-step`), the array after all (`nodes-stored`), and each node found in it.
--- `node-found ns rest k d h : nodeIn (numbers ns ++ rest) (6 * k) ≡ getD ns k d`, from `h : k < length ns`.
-use Prim.Native.Nat.{ℕ, zero, suc, _+_, _-_, _*_, _≤_, _<_}
-use native.Mathlib.Nat.{not-suc-le-zero, add-assoc}
+-- Laws of the nodes' numbers in a lent array: one node of n (`numbers-step`), how many there are, and the array after all (`nodes-stored`).
+-- `nodes-stored file n at l h : sets l 0 (numbers (nodesFrom file n at)) ≡ numbers (nodesFrom file n at) ++ drop (6 * n) l`, from `h : 6 * n ≤ length l`.
+use Prim.Native.Nat.{ℕ, _+_, _-_, _*_, _≤_, _<_}
 use native.Mathlib.Omega.{arith}
 use mathlib.Core.Path.{_≡_, refl, sym, ap, _∙_}
 use mathlib.Core.List.{List, [], _∷_, _++_}
-use lib.ListN.{length, getD, drop}
-use lib.IntN.{ℤ, pos}
-use lib.Seq.{sets, getD-append-add}
+use lib.ListN.{length, drop}
+use lib.IntN.{ℤ}
+use lib.Seq.{sets}
 use Rattle.exact.proofs.Buffers.{sets-append, sets-whole}
 use Rattle.record.specs.Record.{nodeAt}
 use Rattle.record.specs.declared.Node.{Node}
 use Rattle.part.specs.File.{nodesFrom}
 use Rattle.part.proofs.Records.{nodes-step, nodes-length}
-use Rattle.nodes.specs.Numbers.{numbers, nodeIn}
+use Rattle.nodes.specs.Numbers.{numbers}
 
 -- a node's numbers are stored by two stores of three, of numbers that are the node's
 pub node-halves : (n : Node) (l : List ℤ) (to : ℕ) {k r x y z w : ℤ} {half whole : List ℤ}
@@ -31,7 +30,7 @@ unfolding numbers
 numbers-step file n at l to h =
     rw (nodes-step file n at h) (sym (sets-append (numbers (nodeAt file at ∷ [])) (numbers (nodesFrom file (n - 1) (at + 12))) l to))
 
-numbers-length : (ns : List Node) → length (numbers ns) ≡ 6 * length ns
+pub numbers-length : (ns : List Node) → length (numbers ns) ≡ 6 * length ns
 unfolding numbers
 numbers-length [] = refl
 numbers-length (n ∷ later) = omega (arith, numbers-length later)
@@ -41,29 +40,3 @@ pub nodes-stored : (file : List ℕ) (n at : ℕ) (l : List ℤ) → 6 * n ≤ l
     → sets l 0 (numbers (nodesFrom file n at)) ≡ numbers (nodesFrom file n at) ++ drop (6 * n) l
 nodes-stored file n at l h =
     sets-whole (numbers (nodesFrom file n at)) l (6 * n) (numbers-length (nodesFrom file n at) ∙ ap (λ (k : ℕ). 6 * k) (nodes-length file n at)) h
-
--- and each node is found at its place in the array
-in-after : (u l : List ℤ) (at : ℕ) → nodeIn (u ++ l) (length u + at) ≡ nodeIn l at
-unfolding nodeIn
-in-after u l at =
-    rw (
-      add-assoc (length u) at 1,
-      add-assoc (length u) at 2,
-      add-assoc (length u) at 3,
-      add-assoc (length u) at 4,
-      add-assoc (length u) at 5,
-      getD-append-add u l at (pos 0),
-      getD-append-add u l (at + 1) (pos 0),
-      getD-append-add u l (at + 2) (pos 0),
-      getD-append-add u l (at + 3) (pos 0),
-      getD-append-add u l (at + 4) (pos 0),
-      getD-append-add u l (at + 5) (pos 0),
-    )
-
-pub node-found : (ns : List Node) (rest : List ℤ) (k : ℕ) (d : Node) → k < length ns → nodeIn (numbers ns ++ rest) (6 * k) ≡ getD ns k d
-unfolding numbers nodeIn
-node-found [] rest k d h = absurd (not-suc-le-zero h)
-node-found (n ∷ ns) rest zero d h = refl
-node-found (n ∷ ns) rest (suc k) d h =
-    let e : 6 * suc k ≡ 6 + 6 * k = omega arith in
-    ap (nodeIn (numbers (n ∷ ns) ++ rest)) e ∙ in-after (numbers (n ∷ [])) (numbers ns ++ rest) (6 * k) ∙ node-found ns rest k d (omega arith)

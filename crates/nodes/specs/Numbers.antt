@@ -1,8 +1,8 @@
 -- The nodes of a file as numbers in an array: six for each node, one node after the other.
-use Prim.Native.Nat.{ℕ, _+_, _*_}
+use Prim.Native.Nat.{ℕ, _*_}
 use mathlib.Core.List.{List, [], _∷_, _++_}
-use lib.ListN.{getD, drop}
-use lib.IntN.{ℤ, pos}
+use lib.ListN.{drop}
+use lib.IntN.{ℤ}
 use Rattle.record.specs.Questions.{firstNo}
 use Rattle.record.specs.declared.Node.{Node}
 use Rattle.record.specs.declared.Verdict.{Verdict}
@@ -17,17 +17,6 @@ numbersRoom = 3066
 unfoldable pub numbers : List Node → List ℤ
 numbers [] = []
 numbers (n ∷ later) = n .kind ∷ n .radius ∷ n .x ∷ n .y ∷ n .z ∷ n .weight ∷ numbers later
-
--- the node whose six numbers stand from a place on
-unfoldable pub nodeIn : List ℤ → ℕ → Node
-nodeIn l at = record {
-  kind = getD l at (pos 0);
-  radius = getD l (at + 1) (pos 0);
-  x = getD l (at + 2) (pos 0);
-  y = getD l (at + 3) (pos 0);
-  z = getD l (at + 4) (pos 0);
-  weight = getD l (at + 5) (pos 0);
-}
 
 -- a lent array afterwards: the nodes' numbers and then what was past them; of a refused file, as it was
 unfoldable pub handedOver : Verdict → List ℕ → List ℤ → List ℤ

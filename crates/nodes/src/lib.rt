@@ -11,7 +11,7 @@ ghost use Prim.Native.Nat.{_+_, _*_, _≤_};
 ghost use mathlib.Core.List.{_∷_, []};
 ghost use lib.ListN.{length};
 ghost use lib.Seq.{sets};
-ghost use Rattle.part.specs.File.{nodesFrom, checkFile};
+ghost use Rattle.part.specs.File.{nodesFrom, checkFile, Says};
 ghost use Rattle.nodes.specs.Numbers.{numbers, loaded};
 
 // Six numbers for each of the 511 records that question 4 allows.
@@ -56,6 +56,7 @@ fn put_nodes(file: &[u8], n: usize, first: usize, out: &mut [i32])
 // The check of a file; where it is accepted, the nodes' numbers stand from the array's start on, and what lies past them stays.
 pub fn load(file: &[u8], out: &mut [i32; NUMBERS]) -> Checked
     ensures answer { λ r. ⌜ r ≡ checkFile (now (file .entry)) ⌝ }
+    ensures says { λ r. ⌜ Says (now (file .entry)) r ⌝ }
     ensures numbers { λ _. ⌜ now (out .exit) ≡ loaded (now (file .entry)) (now (out .entry)) ⌝ }
 {
     let answer = check(file);

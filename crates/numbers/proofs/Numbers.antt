@@ -16,6 +16,9 @@ use Rattle.part.specs.File.{fileQuestions, Says}
 use Rattle.part.proofs.Trailer.{accepted-trailer, count-high}
 use Rattle.part.proofs.File.{file-numbered}
 use Rattle.record.proofs.Questions.{numbered-append, no-numbered}
+use Rattle.writer.specs.declared.Written.{Written}
+use Rattle.writer.specs.declared.Written.the-variants as writer
+use Rattle.writer.specs.Writer.{WriteSays}
 use Rattle.loading.specs.Loading.{positionInRange}
 use Rattle.bounds.specs.declared.BoundsAnswer.{BoundsAnswer}
 use Rattle.bounds.specs.declared.BoundsAnswer.the-variants as place
@@ -37,7 +40,7 @@ use Rattle.view.specs.declared.ViewRay.{ViewRay}
 use Rattle.view.specs.Ray.{stepsRay}
 use Rattle.view.specs.Call.{viewOf, viewerTicks}
 use Rattle.view.specs.Demands.{inTicks, CountedView, ViewDemands}
-use Rattle.numbers.specs.Numbers.{placeAt, rayOf, Told, checkNumber, boundsNumber}
+use Rattle.numbers.specs.Numbers.{placeAt, rayOf, Told, checkNumber, boundsNumber, writeNumber}
 
 -- the place of the host's three numbers, as they are read
 pub hosts-place : (x y z : ℤ) {p : Position} → SFits w32 x → SFits w32 y → SFits w32 z → p ≡ placeAt (back w32 x) (back w32 y) (back w32 z)
@@ -105,3 +108,16 @@ module _ (file : List ℕ) where
         go (found.Hit t s p) alone c = hit-number-fits (solidOf file) (stepsRay ray) k few budget (found.Hit t s p) alone c
         go (found.Clear p) alone c = hit-number-fits (solidOf file) (stepsRay ray) k few budget (found.Clear p) alone c
         go (found.Spent t p) alone c = hit-number-fits (solidOf file) (stepsRay ray) k few budget (found.Spent t p) alone c
+
+-- ---- a write
+
+module _ (l : List ℤ) (iso : ℕ) (before : List ℕ) (place : ℕ) (after : List ℕ) where
+  pub write-number-fits : (a : Written) → WriteSays l iso before place a after → writeNumber a < 2 ^ 32
+  unfolding writeNumber WriteSays
+  write-number-fits (writer.Refused n) (e, low, high, same) = omega (arith, high)
+  write-number-fits (writer.End e) part = omega (arith, part .short)
+
+  pub write-told : (a : Written) → WriteSays l iso before place a after → Told 17 (writeNumber a)
+  unfolding writeNumber WriteSays
+  write-told (writer.Refused n) (e, low, high, same) = inl (low, high)
+  write-told (writer.End e) part = inr (omega arith)

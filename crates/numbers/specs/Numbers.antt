@@ -8,6 +8,8 @@ use lib.IntN.{ℤ}
 use lib.Ieee.{Float}
 use Rattle.part.specs.declared.Checked.{Checked}
 use Rattle.part.specs.declared.Checked.the-variants as part
+use Rattle.writer.specs.declared.Written.{Written}
+use Rattle.writer.specs.declared.Written.the-variants as writer
 use Rattle.field.specs.declared.Position.{Position}
 use Rattle.field.specs.declared.Ray.{Ray}
 use Rattle.bounds.specs.declared.BoundsAnswer.{BoundsAnswer}
@@ -54,6 +56,11 @@ boundsNumber (place.Bounded b) = 65536
 unfoldable pub boundsLeft : BoundsAnswer → List ℤ → List ℤ
 boundsLeft (place.Refused number) lent = lent
 boundsLeft (place.Bounded b) lent = b .low ∷ b .high ∷ []
+
+-- a write: the refusal number, or 65,536 + the place just after the trailer
+unfoldable pub writeNumber : Written → ℕ
+writeNumber (writer.Refused number) = number
+writeNumber (writer.End end) = 65536 + end
 
 -- ---- the running totals as a host lends them: casts, probes and refusals, three numbers
 

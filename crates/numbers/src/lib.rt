@@ -13,11 +13,12 @@ use tally::Totals;
 use tally::count;
 use view::ViewEnd;
 use view::ViewRay;
+use writer::Written;
 ghost use mathlib.Core.Path.{_≡_};
 ghost use Prim.Native.Nat.{_^_, _<_};
 ghost use Rattle.halving.specs.Numbers.{castNumber, hitNumber};
 ghost use Rattle.cast.specs.Column.{columnNumber};
-ghost use Rattle.numbers.specs.Numbers.{placeAt, rayOf, endOf, viewRayOf, checkNumber, boundsNumber, boundsLeft};
+ghost use Rattle.numbers.specs.Numbers.{placeAt, rayOf, endOf, viewRayOf, checkNumber, boundsNumber, boundsLeft, writeNumber};
 ghost use Rattle.numbers.specs.Numbers.{totalsIn, totalsOut, lentAfter};
 
 // What k counts in a number, and what a tick or the node count does: 2³² and 65,536.
@@ -118,6 +119,16 @@ pub fn bounds_number(answer: BoundsAnswer, lent: &mut [i64; 2]) -> u32
             *lent = [b.low, b.high];
             65536
         }
+    }
+}
+
+pub fn write_number(answer: Written) -> u32
+    requires { ⌜ writeNumber answer < 2 ^ 32 ⌝ }
+    ensures { λ r. ⌜ r ≡ writeNumber answer ⌝ }
+{
+    match answer {
+        Written::Refused(number) => number,
+        Written::End(end) => 65536 + end as u32,
     }
 }
 

@@ -6,7 +6,8 @@ use mathlib.Core.List.{List, [], _∷_, map}
 use borrow.Author.Tests.{eqb-true}
 use Rattle.record.specs.Questions.{firstNo}
 use Rattle.record.specs.Nodes.{heldAfter}
-use Rattle.record.specs.Record.{Record, recordQuestions}
+use Rattle.record.specs.Record.{recordQuestions}
+use Rattle.record.specs.declared.Record.{Record}
 use Rattle.record.specs.declared.Verdict.the-variants.{Yes}
 use Rattle.record.proofs.Questions.{all-yes, yes-append}
 use Rattle.record.proofs.Ranges.{ready}

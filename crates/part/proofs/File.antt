@@ -6,7 +6,8 @@ use mathlib.Core.Path.{_≡_, refl}
 use mathlib.Core.List.{List, [], _∷_}
 use Rattle.record.specs.Questions.{firstNo}
 use Rattle.record.specs.Nodes.{heldAfter}
-use Rattle.record.specs.Record.{Record, nodeQuestions, recordQuestions}
+use Rattle.record.specs.Record.{nodeQuestions, recordQuestions}
+use Rattle.record.specs.declared.Record.{Record}
 use Rattle.record.specs.declared.Verdict.{Verdict}
 use Rattle.record.specs.declared.Verdict.the-variants.{Yes, No}
 use Rattle.record.proofs.Questions.{Numbered, numbered-append}
@@ -35,7 +36,7 @@ refused file e = answer-refused (firstNo (fileQuestions file)) file e
 -- ---- the refusal numbers of a file are 1 to 11
 
 module _ (k : ℕ) (h : 11 ≤ k) where
-  records-numbered : (rs : List Record) (held : ℕ) → Numbered k (recordsQuestions rs held)
+  pub records-numbered : (rs : List Record) (held : ℕ) → Numbered k (recordsQuestions rs held)
   unfolding recordsQuestions recordQuestions nodeQuestions
   records-numbered [] held = (omega arith, omega arith, tt)
   records-numbered (r ∷ later) held =

@@ -20,11 +20,11 @@ use Rattle.part.specs.File.{fileQuestions, answerOf, checkFile}
 module _ (lead file : List ℕ) where
   -- ---- at a place that is moved on by the leading bytes
 
-  u16-moved : (at : ℕ) → u16 (lead ++ file) (length lead + at) ≡ u16 file at
+  pub u16-moved : (at : ℕ) → u16 (lead ++ file) (length lead + at) ≡ u16 file at
   unfolding u16
   u16-moved at = rw (add-assoc (length lead) at 1, getD-append-add lead file at 0, getD-append-add lead file (at + 1) 0)
 
-  u32-moved : (at : ℕ) → u32 (lead ++ file) (length lead + at) ≡ u32 file at
+  pub u32-moved : (at : ℕ) → u32 (lead ++ file) (length lead + at) ≡ u32 file at
   unfolding u32
   u32-moved at = rw (add-assoc (length lead) at 2, u16-moved at, u16-moved (at + 2))
 
@@ -32,7 +32,7 @@ module _ (lead file : List ℕ) where
   unfolding i16
   i16-moved at = rw (u16-moved at)
 
-  hasBytes-moved : (at : ℕ) (bytes : List ℕ) → hasBytes (lead ++ file) (length lead + at) bytes ≡ hasBytes file at bytes
+  pub hasBytes-moved : (at : ℕ) (bytes : List ℕ) → hasBytes (lead ++ file) (length lead + at) bytes ≡ hasBytes file at bytes
   unfolding hasBytes
   hasBytes-moved at [] = refl
   hasBytes-moved at (b ∷ bytes) = rw (getD-append-add lead file at 0, add-assoc (length lead) at 1, hasBytes-moved (at + 1) bytes)
@@ -58,14 +58,14 @@ module _ (lead file : List ℕ) where
   unfolding recordAt zeros
   record-moved at = rw (node-moved at, add-assoc (length lead) at 1, hasBytes-moved (at + 1) _)
 
-  records-moved : (n at : ℕ) → recordsFrom (lead ++ file) n (length lead + at) ≡ recordsFrom file n at
+  pub records-moved : (n at : ℕ) → recordsFrom (lead ++ file) n (length lead + at) ≡ recordsFrom file n at
   unfolding recordsFrom
   records-moved zero at = refl
   records-moved (suc n) at = rw (record-moved at, add-assoc (length lead) at 12, records-moved n (at + 12))
 
   -- ---- the trailer and the records of the whole
 
-  back : (k : ℕ) → k ≤ length file → length (lead ++ file) - k ≡ length lead + (length file - k)
+  pub back : (k : ℕ) → k ≤ length file → length (lead ++ file) - k ≡ length lead + (length file - k)
   back k h = simp length-append (omega arith)
 
   module _ (long : 24 ≤ length file) (within : distance file ≤ length file) where

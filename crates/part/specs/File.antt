@@ -9,8 +9,9 @@ use Rattle.exact.specs.Range.{between}
 use Rattle.record.specs.Bytes.{u16, u32, hasBytes}
 use Rattle.record.specs.Questions.{Question, firstNo}
 use Rattle.record.specs.Nodes.{heldAfter}
-use Rattle.record.specs.Record.{Record, recordAt, recordQuestions}
+use Rattle.record.specs.Record.{recordAt, recordQuestions}
 use Rattle.record.specs.declared.Node.{Node}
+use Rattle.record.specs.declared.Record.{Record}
 use Rattle.record.specs.declared.Verdict.{Verdict}
 use Rattle.record.specs.declared.Verdict.the-variants.{Yes, No}
 use Rattle.part.specs.declared.Summary.{Summary}
@@ -29,9 +30,13 @@ version file = u16 file (length file - 10)
 unfoldable pub distance : List ℕ → ℕ
 distance file = u32 file (length file - 8)
 
--- the last four bytes: hexadecimal 54 52 45 45
+-- hexadecimal 54 52 45 45
+abbrev pub fileMark : List ℕ
+fileMark = 0x54 ∷ 0x52 ∷ 0x45 ∷ 0x45 ∷ []
+
+-- the last four bytes
 unfoldable pub marked : List ℕ → Bool
-marked file = hasBytes file (length file - 4) (0x54 ∷ 0x52 ∷ 0x45 ∷ 0x45 ∷ [])
+marked file = hasBytes file (length file - 4) fileMark
 
 unfoldable pub trailerQuestions : List ℕ → List Question
 trailerQuestions file =

@@ -5,7 +5,7 @@ use exact::is_between;
 use record::Verdict;
 use record::ask;
 use record::held_after;
-use record::node_at;
+use record::record_at;
 use record::record_questions;
 use record::u16_at;
 use record::u32_at;
@@ -112,11 +112,11 @@ fn records_questions(file: &[u8], n: usize, first: usize) -> Verdict
     let mut at = first;
     let mut held = 0;
     while 0 < left {
-        let node = node_at(file, at);
-        if let Verdict::No(number) = record_questions(file, at, node, held) {
+        let rec = record_at(file, at);
+        if let Verdict::No(number) = record_questions(rec, held) {
             return Verdict::No(number);
         }
-        held = held_after(node, held);
+        held = held_after(rec.node, held);
         at += 12;
         left -= 1;
     }

@@ -10,9 +10,10 @@ use Rattle.exact.specs.Range.{betweenℤ}
 use Rattle.exact.proofs.Tests.{both-true, betweenℤ-true, within-small}
 use Rattle.record.specs.Questions.{firstNo}
 use Rattle.record.specs.Nodes.{isPoint, kindKnown, coordinate, inRange, forPoint, forOperator}
-use Rattle.record.specs.Record.{Record, nodeQuestions, recordQuestions}
+use Rattle.record.specs.Record.{nodeQuestions, recordQuestions}
 use Rattle.record.specs.Ranges.{PointRanges, Ready}
 use Rattle.record.specs.declared.Node.{Node}
+use Rattle.record.specs.declared.Record.{Record}
 use Rattle.record.specs.declared.Verdict.the-variants.{Yes}
 use Rattle.record.proofs.Questions.{all-yes}
 
@@ -41,7 +42,7 @@ for-point : (n : Node) (test : Bool) → forPoint n test ≡ true → isPoint n 
 unfolding forPoint
 for-point n test e p = rw p at e
 
-for-operator : (n : Node) (test : Bool) → forOperator n test ≡ true → isPoint n ≡ false → test ≡ true
+pub for-operator : (n : Node) (test : Bool) → forOperator n test ≡ true → isPoint n ≡ false → test ≡ true
 unfolding forOperator
 for-operator n test e p = rw p at e
 

@@ -13,3 +13,8 @@ Question = ℕ × Bool
 unfoldable pub firstNo : List Question → Verdict
 firstNo [] = Yes
 firstNo (q ∷ later) = cond (q .1) (firstNo later) (No (q .0))
+
+-- a verdict, and where it is yes a later one
+unfoldable pub next : Verdict → Verdict → Verdict
+next Yes later = later
+next (No number) later = No number

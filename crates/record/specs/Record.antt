@@ -1,18 +1,14 @@
 -- A record of the part file: the 12 bytes at a place as a node, and the questions about it (document 01, questions 6 to 10).
 use Prim.Native.Nat.{ℕ, _+_}
 use mathlib.Core.List.{List, [], _∷_}
-use mathlib.Core.Bool.{Bool, cond}
+use mathlib.Core.Bool.{cond}
 use lib.IntN.{pos}
 use lib.Dec.{leb, ltb}
 use Rattle.record.specs.Bytes.{byte, u16, i16, zeros}
 use Rattle.record.specs.Questions.{Question}
 use Rattle.record.specs.Nodes.{isPoint, kindKnown, inRange, forPoint, forOperator}
 use Rattle.record.specs.declared.Node.{Node}
-
--- a record of the file: its node, and whether its zero bytes are zero
-pub record Record : Type 0 where
-  pub node : Node
-  pub zeroed : Bool
+use Rattle.record.specs.declared.Record.{Record}
 
 -- the six numbers of the record at a place
 unfoldable pub nodeAt : List ℕ → ℕ → Node

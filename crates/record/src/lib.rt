@@ -30,6 +30,12 @@ pub struct Node {
     pub weight: i32,
 }
 
+// A record of the file, or what is to be one: its node, and whether its zero bytes are zero.
+pub struct Record {
+    pub node: Node,
+    pub zeroed: bool,
+}
+
 // ---- numbers in the bytes, little-endian
 
 pub fn u16_at(file: &[u8], at: usize) -> usize
@@ -101,7 +107,7 @@ pub fn node_at(file: &[u8], at: usize) -> Node
     }
 }
 
-fn is_point(n: Node) -> bool
+pub fn is_point(n: Node) -> bool
     ensures { λ r. ⌜ r ≡ isPoint n ⌝ }
 {
     n.kind == 1
@@ -138,6 +144,18 @@ fn is_zeroed(file: &[u8], at: usize, node: Node) -> bool
     }
 }
 
+// The record at a place.
+pub fn record_at(file: &[u8], at: usize) -> Record
+    requires { ⌜ at + 12 ≤ length (now file) ⌝ }
+    ensures { λ r. ⌜ r ≡ recordAt (now (file .entry)) at ⌝ }
+{
+    let node = node_at(file, at);
+    Record {
+        node: node,
+        zeroed: is_zeroed(file, at, node),
+    }
+}
+
 // Questions 8 to 10 about a node. Of these, 9 asks nothing of a point, and 8 and 10 nothing of an operator.
 fn node_questions(node: Node, held: usize) -> Verdict
     ensures { λ r. ⌜ r ≡ firstNo (nodeQuestions node held) ⌝ }
@@ -149,15 +167,13 @@ fn node_questions(node: Node, held: usize) -> Verdict
     }
 }
 
-// Questions 6 to 10 about the record at a place, whose node is given.
-pub fn record_questions(file: &[u8], at: usize, node: Node, held: usize) -> Verdict
-    requires { ⌜ at + 12 ≤ length (now file) ⌝ }
-    requires { ⌜ node ≡ nodeAt (now file) at ⌝ }
-    ensures { λ r. ⌜ r ≡ firstNo (recordQuestions (recordAt (now (file .entry)) at) held) ⌝ }
+// Questions 6 to 10 about a record.
+pub fn record_questions(rec: Record, held: usize) -> Verdict
+    ensures { λ r. ⌜ r ≡ firstNo (recordQuestions rec held) ⌝ }
 {
+    let node = rec.node;
     let known = is_between_signed(1, 5, node.kind);
-    let zeroed = is_zeroed(file, at, node);
-    ask(6, known, ask(7, zeroed, node_questions(node, held)))
+    ask(6, known, ask(7, rec.zeroed, node_questions(node, held)))
 }
 
 // The values held after a node that found what it needs.

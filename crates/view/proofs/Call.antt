@@ -8,13 +8,13 @@ use mathlib.Core.Bool.{Bool, true, false, cond, _&&_}
 use Prim.Native.Nat.{ℕ, _^_, _≤_}
 use native.Mathlib.Omega.{arith}
 use lib.Dec.{lit≤}
-use Rattle.record.specs.Questions.{firstNo}
+use Rattle.record.specs.Questions.{firstNo, next}
 use Rattle.part.specs.File.{fileQuestions, checkFile}
 use Rattle.part.specs.declared.Summary.{Summary}
 use Rattle.record.specs.declared.Verdict.{Verdict}
 use Rattle.record.specs.declared.Verdict.the-variants.{Yes, No}
 use Rattle.part.specs.declared.Checked.the-variants.{Accepted, Refused}
-use Rattle.record.proofs.Questions.{next, firstNo-append, no-is-not-yes, no-numbered}
+use Rattle.record.proofs.Questions.{firstNo-append, no-is-not-yes, no-numbered}
 use Rattle.part.proofs.File.{answer-accepted, answer-refused, file-numbered}
 use Rattle.field.specs.declared.Ray.{Ray}
 use Rattle.field.specs.Solid.{solidOf}

@@ -32,9 +32,12 @@ returns c =
     let a = t .before .before .before .before .args in
     let e : length (a .out .now) ≡ numbersRoom = search needs in (
       t .before .before .check .ensures .0,
-      rw (yes-to-all t)
-          (c .put-nodes .ensures ∙ rw (c .before .before .start-of .ensures, c .before .before .before .count-of .ensures)
-          (nodes-stored (a .file .now) (count (a .file .now)) (start (a .file .now)) (a .out .now) (fits (a .out .now) (trailer t) e))),
+      (
+        t .before .before .check .ensures .1,
+        rw (yes-to-all t)
+            (c .put-nodes .ensures ∙ rw (c .before .before .start-of .ensures, c .before .before .before .count-of .ensures)
+            (nodes-stored (a .file .now) (count (a .file .now)) (start (a .file .now)) (a .out .now) (fits (a .out .now) (trailer t) e))),
+      ),
     )
 
 pub load-spec : {M : Type 1} → statement M
@@ -56,4 +59,4 @@ load-spec =
     returns
     (λ c.
     let k = c .before .before in
-    (k .check .ensures .0, rw (refused (k .before .before .args .file .now) (sym (k .check .ensures .0) ∙ c .enum-told2 .given .1)))))
+    (k .check .ensures .0, (k .check .ensures .1, rw (refused (k .before .before .args .file .now) (sym (k .check .ensures .0) ∙ c .enum-told2 .given .1))))))

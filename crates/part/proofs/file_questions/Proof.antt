@@ -1,7 +1,8 @@
 use native.Mathlib.Omega.{arith}
 use mathlib.Core.Path.{sym, _∙_}
 use borrow.Author.Needs.{needs}
-use Rattle.record.proofs.Questions.{next, firstNo-append}
+use Rattle.record.specs.Questions.{next}
+use Rattle.record.proofs.Questions.{firstNo-append}
 use Rattle.part.specs.File.{fileQuestions, records}
 use Rattle.part.specs.Accepted.{Trailer}
 use Rattle.part.proofs.Trailer.{trailer-facts, records-end}

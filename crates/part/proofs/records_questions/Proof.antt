@@ -5,14 +5,13 @@ use mathlib.Core.Path.{_≡_, sym, _∙_}
 use mathlib.Core.List.{List}
 use lib.ListN.{length}
 use borrow.Author.Needs.{needs}
-use Rattle.record.specs.Questions.{firstNo}
+use Rattle.record.specs.Questions.{firstNo, next}
 use Rattle.record.specs.Nodes.{heldAfter}
 use Rattle.record.specs.Record.{recordAt}
 use Rattle.record.specs.declared.Verdict.{Verdict}
-use Rattle.record.proofs.Questions.{next}
 use Rattle.record.proofs.Ranges.{ready}
 use Rattle.part.specs.File.{recordsFrom, recordsQuestions}
-use Rattle.part.proofs.Records.{records-step}
+use Rattle.part.proofs.Records.{records-step, questions-step}
 use Rattle.part.proofs.records_questions.Statement.{statement}
 use Rattle.part.proofs.records_questions.Tie as tie
 
@@ -31,15 +30,16 @@ step : (c : tie.After-record-questions Inv-loop μ-loop)
     let l = b .before .loop in
     let a = b .before .before .before .args in
     row (a .file .now) (a .n) (a .first) 0
-    ≡ next (c .record-questions .result) (row (a .file .now) (l .left - 1) (l .at + 12) (heldAfter (c .before .node-at .result) (l .held))))
+    ≡ next (c .record-questions .result) (row (a .file .now) (l .left - 1) (l .at + 12) (heldAfter (c .before .record-at .result .node) (l .held))))
 step c =
     let b = c .before .before in
     let l = b .before .loop in
-    let s = records-step (b .before .before .before .args .file .now) (l .left) (l .at) (l .held) (b .loop-test .taken) in
-    rw (← l .inv .1, c .record-questions .ensures, c .before .node-at .ensures) s
+    let file = b .before .before .before .args .file .now in
+    rw (← l .inv .1, records-step file (l .left) (l .at) (b .loop-test .taken), c .record-questions .ensures, c .before .record-at .ensures)
+    (questions-step (recordAt file (l .at)) (recordsFrom file (l .left - 1) (l .at + 12)) (l .held))
 
 pub records-questions-spec : {M : Type 1} → statement M
-unfolding next recordAt recordsQuestions recordsFrom firstNo
+unfolding next recordsQuestions recordsFrom firstNo
 records-questions-spec =
     tie.close
     (tie.spec
@@ -47,16 +47,11 @@ records-questions-spec =
     μ-loop
     (λ c. search needs)
     (λ c κs. omega arith)
-    (λ c κs. (omega arith, c .node-at .ensures))
+    (λ c κs. search needs)
     (λ c. search needs)
     (λ c. rw (step (c .before .before .before), c .before .number .given .1))
     (λ c. search needs)
-    (λ c κs.
-    let q = c .before .before in
-    let b = q .before .before in
-    let file = b .before .before .before .args .file .now in
-    let all-yes = sym (q .record-questions .ensures) ∙ c .enum-told .given .1 in
-    rw (q .before .node-at .ensures) (ready (recordAt file (b .before .loop .at)) _ all-yes))
+    (λ c κs. let q = c .before .before in ready (q .before .record-at .result) _ (sym (q .record-questions .ensures) ∙ c .enum-told .given .1))
     (λ c. omega arith)
     (λ c. omega arith)
     (λ c. omega arith)

@@ -1,0 +1,108 @@
+-- The writer's questions: which no is the first, as the code asks them (`no-16`, `from-5`), what all answered yes says (`agreed`), and which numbers
+-- a refusal has.
+use Prim.Native.Nat.{ℕ, _+_, _*_, _/_, _%_, _≤_}
+use native.Mathlib.Omega.{arith}
+use mathlib.Core.Path.{_≡_, refl}
+use mathlib.Core.List.{List, [], _∷_, _++_, map}
+use mathlib.Core.Bool.{Bool, true, false, cond}
+use borrow.Author.Tests.{leb-true, eqb-true}
+use lib.ListN.{length}
+use lib.IntN.{ℤ}
+use lib.Dec.{leb, eqb}
+use Rattle.exact.specs.Range.{between}
+use Rattle.exact.proofs.Tests.{both-true, between-true}
+use Rattle.record.specs.Questions.{Question, firstNo, next}
+use Rattle.record.specs.declared.Verdict.{Verdict}
+use Rattle.record.specs.declared.Verdict.the-variants.{Yes, No}
+use Rattle.record.proofs.Questions.{firstNo-append, all-yes, yes-append, numbered-append, no-numbered}
+use Rattle.part.specs.File.{recordsQuestions}
+use Rattle.part.proofs.File.{records-numbered}
+use Rattle.writer.specs.Bytes.{size}
+use Rattle.writer.specs.Given.{given, recordOf}
+use Rattle.writer.specs.Writer.{counted, hasRoom, writerQuestions}
+use Rattle.writer.proofs.Given.{given-length}
+use Rattle.writer.proofs.Reading.{Writable}
+
+-- a number count that is accepted
+pub record Counted (n : ℕ) : Type 0 where
+  pub some : 1 ≤ n / 6
+  pub few : n / 6 ≤ 511
+  pub whole : n ≡ 6 * (n / 6)
+
+pub counted-facts : (n : ℕ) → counted n ≡ true → Counted n
+unfolding counted
+counted-facts n e =
+    let p = both-true (between 6 3066 n) (eqb (n % 6) 0) e in
+    let b = between-true 6 3066 n (p .0) in
+    let z : n % 6 ≡ 0 = eqb-true (n % 6) 0 (p .1) in
+    record { some = omega (arith, b .0); few = omega (arith, b .1); whole = omega arith }
+
+module _ (l : List ℤ) (i room place : ℕ) where
+  abbrev pub nodesVerdict : Verdict
+  nodesVerdict = firstNo (recordsQuestions (map recordOf (given l)) 0)
+
+  abbrev pub lastVerdict : Verdict
+  lastVerdict = cond (hasRoom (length l / 6) room place) Yes (No 17)
+
+  -- the lists one after the other
+  in-order : firstNo (writerQuestions l i room place)
+      ≡ next (cond (counted (length l)) (cond (between 1 4096 i) nodesVerdict (No 5)) (No 16)) lastVerdict
+  unfolding writerQuestions firstNo
+  in-order =
+      firstNo-append ((16, counted (length l)) ∷ (5, between 1 4096 i) ∷ recordsQuestions (map recordOf (given l)) 0)
+      ((17, hasRoom (length l / 6) room place) ∷ [])
+
+  pub no-16 : counted (length l) ≡ false → firstNo (writerQuestions l i room place) ≡ No 16
+  unfolding next
+  no-16 e = rw (in-order, e)
+
+  pub from-5 : counted (length l) ≡ true → firstNo (writerQuestions l i room place) ≡ cond (between 1 4096 i) (next nodesVerdict lastVerdict) (No 5)
+  unfolding next
+  from-5 e = rw (in-order, e) (go (between 1 4096 i))
+    where
+      go : (t : Bool) → next (cond t nodesVerdict (No 5)) lastVerdict ≡ cond t (next nodesVerdict lastVerdict) (No 5)
+      go true = refl
+      go false = refl
+
+  -- all answered yes
+  pub record Agreed : Type 0 where
+    pub count : Counted (length l)
+    pub writable : Writable (given l) i
+    pub within : place + size (length l / 6) ≤ room
+    pub short : place + size (length l / 6) ≤ 65536
+
+  pub agreed : firstNo (writerQuestions l i room place) ≡ Yes → Agreed
+  unfolding writerQuestions hasRoom
+  agreed ok =
+      let first : List Question = (16, counted (length l)) ∷ (5, between 1 4096 i) ∷ [] in
+      let last : List Question = (17, hasRoom (length l / 6) room place) ∷ [] in
+      let rs = recordsQuestions (map recordOf (given l)) 0 in
+      let end = place + size (length l / 6) in
+      let earlier = yes-append (first ++ rs) last ok in
+      let each = yes-append first rs (earlier .0) in
+      let k = counted-facts (length l) (all-yes first (each .0) 0) in
+      let b = between-true 1 4096 i (all-yes first (each .0) 1) in
+      let r = both-true (leb end room) (leb end 65536) (all-yes last (earlier .1) 0) in
+      let n = given-length l in
+      record {
+        count = k;
+        writable = record {
+          some = rw n (k .some);
+          few = rw n (k .few);
+          iso-low = b .0;
+          iso-high = b .1;
+          yes-to-all = each .1;
+        };
+        within = leb-true end room (r .0);
+        short = leb-true end 65536 (r .1);
+      }
+
+  -- a refusal is 1 to 17
+  pub no-1-to-17 : {n : ℕ} → firstNo (writerQuestions l i room place) ≡ No n → (1 ≤ n) × (n ≤ 17)
+  unfolding writerQuestions
+  no-1-to-17 =
+      no-numbered 17 (writerQuestions l i room place)
+      (numbered-append 17 ((16, counted (length l)) ∷ (5, between 1 4096 i) ∷ recordsQuestions (map recordOf (given l)) 0)
+      ((17, hasRoom (length l / 6) room place) ∷ [])
+      (omega arith, omega arith, (omega arith, omega arith, records-numbered 17 (omega arith) (map recordOf (given l)) 0))
+      (omega arith, omega arith, tt))

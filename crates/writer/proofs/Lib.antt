@@ -1,0 +1,10 @@
+pub mod Numbers
+pub mod Pieces
+pub mod Given
+pub mod Records
+pub mod Trailer
+pub mod Reading
+pub mod Rewriting
+pub mod Asked
+pub mod Buffer
+pub mod Promises

@@ -1,0 +1,4 @@
+pub mod Bytes
+pub mod Given
+pub mod Storable
+pub mod Writer
