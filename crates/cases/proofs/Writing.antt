@@ -6,11 +6,16 @@
 --     changed-refused               a refused call changes no byte
 --     other-file                    `Returned`
 use Prim.Native.Nat.{ℕ, zero, suc}
+use native.Mathlib.Nat.{not-suc-le-zero}
 use native.Mathlib.Omega.{arith}
 use mathlib.Core.Path.{_≡_, refl, ap}
 use mathlib.Core.List.{List, [], _∷_, _++_, map}
+use mathlib.Core.Bool.{Bool, true, _&&_}
+use borrow.Author.Tests.{ltb-true}
 use lib.ListN.{getD, replicate}
 use lib.IntN.{ℤ, pos, negsuc, natAbs}
+use lib.Dec.{ltb}
+use Rattle.exact.proofs.Tests.{both-true}
 use Rattle.record.specs.Bytes.{u16, u32, i16, hasBytes, zeros}
 use Rattle.record.specs.Questions.{firstNo}
 use Rattle.record.specs.Nodes.{isPoint, kindKnown, coordinate, inRange, forPoint, forOperator, heldAfter}
@@ -22,9 +27,9 @@ use Rattle.part.specs.File.{recordsQuestions, fileQuestions, answerOf, checkFil
 use Rattle.part.specs.declared.Checked.{Checked}
 use Rattle.part.specs.declared.Checked.the-variants as part
 use Rattle.nodes.specs.Numbers.{numbers}
-use Rattle.writer.specs.Bytes.{bits16, u16Bytes, u32Bytes, i16Bytes, recordBytes, recordsBytes, size, trailerBytes, partBytes}
+use Rattle.writer.specs.Bytes.{Octets, bits16, u16Bytes, u32Bytes, i16Bytes, recordBytes, recordsBytes, size, trailerBytes, partBytes}
 use Rattle.writer.specs.Given.{nodeIn, nodesIn, given, blank, recordOf}
-use Rattle.writer.specs.Writer.{counted, hasRoom, writerQuestions, WriteSays}
+use Rattle.writer.specs.Writer.{counted, hasRoom, writerQuestions, WriteSays, ReadFrom, Returned}
 use Rattle.writer.specs.declared.Written.the-variants.{Refused, End}
 
 -- a point with its kind, r and x given; an operator with its w given
@@ -98,8 +103,8 @@ rows =
 
 pub asked : map (λ r. firstNo (writerQuestions (r .numbers) (r .iso) (r .room) (r .place))) rows ≡ map (λ r. r .answer) rows
 unfolding
-    rows points firstNo isPoint kindKnown coordinate inRange forPoint forOperator heldAfter nodeQuestions recordQuestions recordsQuestions nodeIn nodesIn
-    given blank recordOf size counted hasRoom writerQuestions
+    rows points firstNo isPoint kindKnown coordinate inRange forPoint forOperator heldAfter nodeQuestions recordQuestions recordsQuestions nodeIn
+    nodesIn given blank recordOf size counted hasRoom writerQuestions
 asked = refl
 
 -- ---- the bytes
@@ -159,3 +164,39 @@ cleared-after says = omega (arith, ap (λ (l : List ℕ). getD l 0 0) (says .aft
 pub changed-refused : WriteSays pointA 0 lent 1 (Refused 5) (left 0x77 1 2 0 0x77) → ⊥
 unfolding WriteSays
 changed-refused (first, low, high, same) = omega (arith, ap (λ (l : List ℕ). getD l 1 0) same)
+
+-- ---- file K, read and written again
+
+abbrev fileK : List ℕ
+fileK = partBytes (given pointK) 1
+
+-- that bytes are bytes, by computing
+allBelow : List ℕ → Bool
+allBelow [] = true
+allBelow (b ∷ later) = ltb b 256 && allBelow later
+
+octets : (l : List ℕ) → allBelow l ≡ true → Octets l
+unfolding allBelow
+octets [] e k h = absurd (not-suc-le-zero h)
+octets (b ∷ later) e zero h = ltb-true b 256 (both-true (ltb b 256) (allBelow later) e .0)
+octets (b ∷ later) e (suc k) h = octets later (both-true (ltb b 256) (allBelow later) e .1) k (omega arith)
+
+read-K : ReadFrom fileK pointK 1 24
+unfolding
+    allBelow nodeIn nodesIn given bits16 u16Bytes u32Bytes i16Bytes recordBytes recordsBytes size trailerBytes partBytes u16 u32 i16 hasBytes zeros
+    firstNo isPoint kindKnown coordinate inRange forPoint forOperator heldAfter nodeAt zeroBytes recordAt nodeQuestions recordQuestions iso version
+    distance marked trailerQuestions start count recordsFrom records nodesFrom nodes recordsQuestions fileQuestions answerOf checkFile numbers
+read-K = record {
+  octets = octets fileK refl;
+  accepted = refl;
+  no-leading = refl;
+  numbers-read = refl;
+  iso-read = refl;
+  room-enough = omega arith;
+}
+
+pub other-file : (after : List ℕ) → getD after 5 0 ≡ 1 → Returned pointK 1 (replicate 24 0x77) 0 (End 24) after → ⊥
+unfolding Returned nodeIn nodesIn given bits16 u16Bytes u32Bytes i16Bytes recordBytes recordsBytes size trailerBytes partBytes
+other-file after one returned =
+    let e : getD after 5 0 ≡ 0 = ap (λ (l : List ℕ). getD l 5 0) (returned fileK read-K refl .1) in
+    omega arith

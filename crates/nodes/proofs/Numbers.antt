@@ -1,5 +1,5 @@
 -- Laws of the nodes' numbers in a lent array: one node of n (`numbers-step`), how many there are, and the array after all (`nodes-stored`).
--- `nodes-stored file n at l h : sets l 0 (numbers (nodesFrom file n at)) ≡ numbers (nodesFrom file n at) ++ drop (6 * n) l`, from `h : 6 * n ≤ length l`.
+-- `nodes-stored file n at l h`, from `h : 6 * n ≤ length l`: stored from the start of l, the numbers of n nodes stand before what l had after them.
 use Prim.Native.Nat.{ℕ, _+_, _-_, _*_, _≤_, _<_}
 use native.Mathlib.Omega.{arith}
 use mathlib.Core.Path.{_≡_, refl, sym, ap, _∙_}

@@ -48,7 +48,8 @@ pub pieces : (file : List ℕ) (at n : ℕ) → at + suc n ≤ length file → d
 pieces file at n h = runs 0 file at n h
 
 -- bytes that a file has at a place
-pub has-byte : (file : List ℕ) (at : ℕ) (bytes : List ℕ) (k : ℕ) → hasBytes file at bytes ≡ true → k < length bytes → byte file (at + k) ≡ getD bytes k 0
+pub has-byte : (file : List ℕ) (at : ℕ) (bytes : List ℕ) (k : ℕ) → hasBytes file at bytes ≡ true → k < length bytes
+    → byte file (at + k) ≡ getD bytes k 0
 unfolding hasBytes
 has-byte file at [] k e h = absurd (not-suc-le-zero h)
 has-byte file at (b ∷ bytes) zero e h =

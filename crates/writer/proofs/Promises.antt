@@ -1,6 +1,6 @@
 -- What the writer promises beside its equations (document 02, P2): what was given is read back, all else is kept (`write-says`), and what was read
 -- from a file is that file again (`write-returns`).
-use Prim.Native.Nat.{ℕ, _+_, _*_, _/_, _%_, _≤_}
+use Prim.Native.Nat.{ℕ, _+_, _/_, _%_, _≤_}
 use native.Mathlib.Nat.{zero-add}
 use native.Mathlib.Omega.{arith}
 use mathlib.Core.Path.{_≡_, refl, sym, ap, ap₂, _∙_, subst}

@@ -1,4 +1,5 @@
--- What is written is read back: `part-accepted` and `part-nodes`, whatever stands before it.
+-- Records and trailer read back, whatever stands before them: the check accepts them, and their nodes are the given ones.
+-- `part-accepted w before short : checkFile (before ++ partBytes ns i) ≡ Accepted …`, from `w : Writable ns i`; `part-nodes` says it of the nodes.
 use Prim.Native.Nat.{ℕ, _+_, _*_, _%_, _≤_}
 use native.Mathlib.Omega.{arith}
 use mathlib.Core.Path.{_≡_, refl, ap, _∙_}
@@ -7,7 +8,8 @@ use borrow.Author.Tests.{le-leb, eq-eqb}
 use lib.ListN.{length, length-append}
 use Rattle.exact.proofs.Tests.{true-between}
 use Rattle.record.specs.Questions.{firstNo, next}
-use Rattle.part.specs.File.{iso, distance, recordsQuestions, trailerQuestions, start, count, records, nodesFrom, nodes, fileQuestions, answerOf, checkFile}
+use Rattle.part.specs.File.{iso, distance, trailerQuestions, start, count, records, nodesFrom, nodes}
+use Rattle.part.specs.File.{recordsQuestions, fileQuestions, answerOf, checkFile}
 use Rattle.record.specs.declared.Node.{Node}
 use Rattle.part.specs.declared.Checked.the-variants.{Accepted}
 use Rattle.record.specs.declared.Verdict.the-variants.{Yes}

@@ -1,4 +1,5 @@
--- A record's bytes read back: `records-back`, the records of accepted nodes are read as these nodes, whatever follows them.
+-- A record's bytes read back. `records-back ns held rest ok : recordsFrom (recordsBytes ns ++ rest) (length ns) 0 ≡ map recordOf ns`, from `ok`, that
+-- the questions accept the nodes: whatever follows them.
 use Prim.Native.Nat.{ℕ, _+_, _-_, _*_, _/_, _%_, _≤_, _<_}
 use native.Mathlib.Omega.{arith}
 use mathlib.Core.Path.{_≡_, refl, sym, ap, ap₂, _∙_}
@@ -183,7 +184,8 @@ all-storable (n ∷ later) held ok =
 -- ---- one of n nodes that are given, with the code's `n - 1`
 
 pub bytes-step : (l : List ℤ) (n at : ℕ) (out : List ℕ) (to : ℕ) → 0 < n
-    → sets out to (recordsBytes (nodesIn l n at)) ≡ sets (sets out to (recordBytes (nodeIn l at))) (to + 12) (recordsBytes (nodesIn l (n - 1) (at + 6)))
+    → sets out to (recordsBytes (nodesIn l n at))
+    ≡ sets (sets out to (recordBytes (nodeIn l at))) (to + 12) (recordsBytes (nodesIn l (n - 1) (at + 6)))
 unfolding recordsBytes
 bytes-step l n at out to h =
     let v = recordsBytes (nodesIn l (n - 1) (at + 6)) in

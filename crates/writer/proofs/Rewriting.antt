@@ -1,4 +1,5 @@
--- Writing what was read: of an accepted file without leading bytes, `rewritten` says that it is that file, and `read-writable` that the questions accept it.
+-- Writing what was read from an accepted file: its bytes from the first record on (`rewritten-part`), which without leading bytes are the file
+-- (`rewritten`); and that the questions accept it (`read-writable`).
 use Prim.Native.Nat.{ℕ, zero, suc, _+_, _-_, _*_, _≤_, _<_}
 use native.Mathlib.Nat.{add-zero}
 use native.Mathlib.Omega.{arith}

@@ -1,5 +1,5 @@
 -- Numbers that a record's bytes can hold, as facts: the inner functions ask them.
-use Prim.Native.Nat.{ℕ, _<_}
+use Prim.Native.Nat.{_<_}
 use mathlib.Core.Path.{_≡_}
 use mathlib.Core.List.{List, [], _∷_}
 use lib.IntN.{pos, natAbs}

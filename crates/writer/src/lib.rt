@@ -137,7 +137,7 @@ fn bits_of(z: i32) -> usize
     ensures { λ r. ⌜ r ≡ bits16 z ⌝ }
 {
     if z < 0 {
-        (z + 65536) as usize
+        65536 - (0 - z) as usize
     } else {
         z as usize
     }

@@ -59,4 +59,5 @@ load-spec =
     returns
     (λ c.
     let k = c .before .before in
-    (k .check .ensures .0, (k .check .ensures .1, rw (refused (k .before .before .args .file .now) (sym (k .check .ensures .0) ∙ c .enum-told2 .given .1))))))
+    let said = refused (k .before .before .args .file .now) (sym (k .check .ensures .0) ∙ c .enum-told2 .given .1) in
+    (k .check .ensures .0, (k .check .ensures .1, rw said))))

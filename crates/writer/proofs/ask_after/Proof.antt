@@ -1,4 +1,4 @@
-use mathlib.Core.Path.{_≡_, refl, sym}
+use mathlib.Core.Path.{_≡_, refl}
 use borrow.Author.Needs.{needs}
 use Rattle.record.specs.Questions.{next}
 use Rattle.record.specs.declared.Verdict.{Verdict}

@@ -1,7 +1,8 @@
 use native.Mathlib.Nat.{le-refl}
 use lib.IntN.{ℤ, pos}
 use lib.Dec.{eqb}
-use mathlib.Core.Path.{_≡_}
+use mathlib.Core.Path.{_≡_, ap₂, _∙_}
+use mathlib.Core.Bool.{_&&_}
 use mir.Syntax.{w32}
 use mir.Val.{SFits, ofZ}
 use borrow.Author.Needs.{needs}
@@ -23,17 +24,10 @@ returns c =
     let y : SFits w32 (n .y) = search needs in
     let z : SFits w32 (n .z) = search needs in
     let w : SFits w32 (n .weight) = search needs in
-    rw (
-      c .both4 .ensures,
-      c .before .both3 .ensures,
-      c .before .before .both2 .ensures,
-      c .before .before .before .both .ensures,
-      is-zero r,
-      is-zero x,
-      is-zero y,
-      is-zero z,
-      is-zero w,
-    )
+    let upToX = c .before .before .before .both .ensures ∙ ap₂ _&&_ (is-zero r) (is-zero x) in
+    let upToY = c .before .before .both2 .ensures ∙ ap₂ _&&_ upToX (is-zero y) in
+    let upToZ = c .before .both3 .ensures ∙ ap₂ _&&_ upToY (is-zero z) in
+    c .both4 .ensures ∙ ap₂ _&&_ upToZ (is-zero w)
 
 pub is-blank-spec : {M : Type 1} → statement M
 is-blank-spec = tie.close (tie.spec (λ c κs. search needs) (λ c κs. search needs) (λ c κs. search needs) (λ c κs. search needs) returns)

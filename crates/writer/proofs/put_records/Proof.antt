@@ -53,10 +53,9 @@ put-records-spec =
     (λ c κs. omega arith)
     (λ c κs.
     let b = c .before .before in
-    let l = b .before .loop in (
-      rw (c .before .node-in .ensures) (storable-step (b .before .before .before .args .numbers .now) (l .left) (l .at) (b .loop-test .taken) (l .inv .3) .0),
-      omega arith,
-    ))
+    let l = b .before .loop in
+    let numbers = b .before .before .before .args .numbers .now in
+    (rw (c .before .node-in .ensures) (storable-step numbers (l .left) (l .at) (b .loop-test .taken) (l .inv .3) .0), omega arith))
     (λ c. omega arith)
     (λ c. omega arith)
     (λ c. omega arith)

@@ -6,4 +6,10 @@ use Rattle.writer.proofs.put_trailer.Tie as tie
 pub put-trailer-spec : {M : Type 1} → statement M
 unfolding words size trailerBytes u16Bytes u32Bytes
 put-trailer-spec =
-    tie.close (tie.spec (λ c. search needs) (λ c. search needs) (λ c κs. search needs) (λ c. search needs) (λ c. c .before .before .put-words .ensures))
+    tie.close
+    (tie.spec
+    (λ c. search needs)
+    (λ c. search needs)
+    (λ c κs. search needs)
+    (λ c. search needs)
+    (λ c. c .before .before .put-words .ensures))

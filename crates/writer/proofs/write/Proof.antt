@@ -21,7 +21,8 @@ use Rattle.writer.proofs.write.Tie as tie
 
 -- all questions are answered yes
 yes-to-all : (c : tie.After-enum-told)
-    → (let a = c .before .before .before .before .args in firstNo (writerQuestions (a .numbers .now) (a .iso) (length (a .buffer .now)) (a .place)) ≡ Yes)
+    → (let a = c .before .before .before .before .args in
+    firstNo (writerQuestions (a .numbers .now) (a .iso) (length (a .buffer .now)) (a .place)) ≡ Yes)
 yes-to-all c = sym (c .before .before .writer-questions .ensures) ∙ c .enum-told .given .1
 
 facts : (c : tie.After-enum-told)
