@@ -163,7 +163,7 @@ cleared-after says = omega (arith, ap (λ (l : List ℕ). getD l 0 0) (says .aft
 
 pub changed-refused : WriteSays pointA 0 lent 1 (Refused 5) (left 0x77 1 2 0 0x77) → ⊥
 unfolding WriteSays
-changed-refused (first, low, high, same) = omega (arith, ap (λ (l : List ℕ). getD l 1 0) same)
+changed-refused (first, refusal, same) = omega (arith, ap (λ (l : List ℕ). getD l 1 0) same)
 
 -- ---- file K, read and written again
 

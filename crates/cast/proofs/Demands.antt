@@ -58,21 +58,21 @@ buffer-valid file ray need room v = hit-valid file ray (yes-append (hitQuestions
 
 -- ---- refusal numbers
 
-hit-numbered : (file : List ℕ) (ray : Ray) (k : ℕ) → 13 ≤ k → Numbered k (hitQuestions file ray)
+hit-numbered : (file : List ℕ) (ray : Ray) (k : ℕ) → 13 ≤ k → Numbered 1 k (hitQuestions file ray)
 unfolding hitQuestions rayQuestions
 hit-numbered file ray k h =
-    numbered-append k (rayQuestions file ray) ((13, endsDiffer ray) ∷ [])
-    (numbered-append k (fileQuestions file) ((12, rayInRange ray) ∷ []) (file-numbered k (omega arith) file) (omega arith, omega arith, tt))
+    numbered-append 1 k (rayQuestions file ray) ((13, endsDiffer ray) ∷ [])
+    (numbered-append 1 k (fileQuestions file) ((12, rayInRange ray) ∷ []) (file-numbered k (omega arith) file) (omega arith, omega arith, tt))
     (omega arith, omega arith, tt)
 
 hit-refusal : (file : List ℕ) (ray : Ray) {n : ℕ} → firstNo (hitQuestions file ray) ≡ No n → (1 ≤ n) × (n ≤ 13)
-hit-refusal file ray e = no-numbered 13 (hitQuestions file ray) (hit-numbered file ray 13 (omega arith)) e
+hit-refusal file ray e = no-numbered 1 13 (hitQuestions file ray) (hit-numbered file ray 13 (omega arith)) e
 
 buffer-refusal : (file : List ℕ) (ray : Ray) (need room : ℕ) {n : ℕ} → firstNo (bufferQuestions file ray need room) ≡ No n → (1 ≤ n) × (n ≤ 14)
 unfolding bufferQuestions
 buffer-refusal file ray need room e =
-    no-numbered 14 (bufferQuestions file ray need room)
-    (numbered-append 14 (hitQuestions file ray) ((14, leb need room) ∷ []) (hit-numbered file ray 14 (omega arith)) (omega arith, omega arith, tt)) e
+    no-numbered 1 14 (bufferQuestions file ray need room)
+    (numbered-append 1 14 (hitQuestions file ray) ((14, leb need room) ∷ []) (hit-numbered file ray 14 (omega arith)) (omega arith, omega arith, tt)) e
 
 module _ (solid : Solid) (ray : Ray) where
   -- ---- demand 3

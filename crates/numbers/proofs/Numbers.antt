@@ -18,7 +18,7 @@ use Rattle.part.proofs.File.{file-numbered}
 use Rattle.record.proofs.Questions.{numbered-append, no-numbered}
 use Rattle.writer.specs.declared.Written.{Written}
 use Rattle.writer.specs.declared.Written.the-variants as writer
-use Rattle.writer.specs.Writer.{WriteSays}
+use Rattle.writer.specs.Writer.{WriteRefusal, WriteSays}
 use Rattle.loading.specs.Loading.{positionInRange}
 use Rattle.bounds.specs.declared.BoundsAnswer.{BoundsAnswer}
 use Rattle.bounds.specs.declared.BoundsAnswer.the-variants as place
@@ -78,20 +78,20 @@ module _ (solid : Solid) (ray : Ray) (k : ℕ) (few : 2 ^ k ≤ 4096) where
 module _ (file : List ℕ) where
   pub check-number-fits : (a : Checked) → Says file a → checkNumber a < 2 ^ 64
   unfolding checkNumber Says
-  check-number-fits (part.Refused n) e = omega (arith, no-numbered 11 (fileQuestions file) (file-numbered 11 (omega arith) file) e .1)
+  check-number-fits (part.Refused n) e = omega (arith, no-numbered 1 11 (fileQuestions file) (file-numbered 11 (omega arith) file) e .1)
   check-number-fits (part.Accepted s) (ok, nodes, iso) =
       let t = accepted-trailer file ok in omega (arith, nodes, iso, count-high t, t .iso-high)
 
   pub check-told : (a : Checked) → Says file a → Told 11 (checkNumber a)
   unfolding checkNumber Says
-  check-told (part.Refused n) e = inl (no-numbered 11 (fileQuestions file) (file-numbered 11 (omega arith) file) e)
+  check-told (part.Refused n) e = inl (no-numbered 1 11 (fileQuestions file) (file-numbered 11 (omega arith) file) e)
   check-told (part.Accepted s) says = inr (omega arith)
 
   pub bounds-told : (p : Position) (a : BoundsAnswer) → PlaceSays file p a → Told 12 (boundsNumber a)
   unfolding boundsNumber PlaceSays placeQuestions
   bounds-told p (place.Refused n) e =
-      inl (no-numbered 12 (placeQuestions file p)
-      (numbered-append 12 (fileQuestions file) ((12, positionInRange p) ∷ []) (file-numbered 12 (omega arith) file) (omega arith, omega arith, tt)) e)
+      inl (no-numbered 1 12 (placeQuestions file p)
+      (numbered-append 1 12 (fileQuestions file) ((12, positionInRange p) ∷ []) (file-numbered 12 (omega arith) file) (omega arith, omega arith, tt)) e)
   bounds-told p (place.Bounded b) says = inr (omega arith)
 
   -- ---- the viewer's first hit
@@ -111,13 +111,18 @@ module _ (file : List ℕ) where
 
 -- ---- a write
 
+few : {n : ℕ} → WriteRefusal n → (1 ≤ n) × (n ≤ 17)
+few (inl (low, high)) = (omega (arith, low), omega (arith, high))
+few (inr (inl e)) = (omega arith, omega arith)
+few (inr (inr e)) = (omega arith, omega arith)
+
 module _ (l : List ℤ) (iso : ℕ) (before : List ℕ) (place : ℕ) (after : List ℕ) where
   pub write-number-fits : (a : Written) → WriteSays l iso before place a after → writeNumber a < 2 ^ 32
   unfolding writeNumber WriteSays
-  write-number-fits (writer.Refused n) (e, low, high, same) = omega (arith, high)
+  write-number-fits (writer.Refused n) (e, refusal, same) = omega (arith, few refusal .1)
   write-number-fits (writer.End e) part = omega (arith, part .short)
 
   pub write-told : (a : Written) → WriteSays l iso before place a after → Told 17 (writeNumber a)
   unfolding writeNumber WriteSays
-  write-told (writer.Refused n) (e, low, high, same) = inl (low, high)
+  write-told (writer.Refused n) (e, refusal, same) = inl (few refusal)
   write-told (writer.End e) part = inr (omega arith)

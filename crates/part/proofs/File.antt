@@ -33,20 +33,20 @@ pub refused : (file : List ℕ) {n : ℕ} → checkFile file ≡ Refused n → f
 unfolding checkFile
 refused file e = answer-refused (firstNo (fileQuestions file)) file e
 
--- ---- the refusal numbers of a file are 1 to 11
+-- ---- the refusal numbers of a file are 1 to 11, those of its records 6 to 11
 
-module _ (k : ℕ) (h : 11 ≤ k) where
-  pub records-numbered : (rs : List Record) (held : ℕ) → Numbered k (recordsQuestions rs held)
+module _ (j k : ℕ) (low : j ≤ 6) (h : 11 ≤ k) where
+  pub records-numbered : (rs : List Record) (held : ℕ) → Numbered j k (recordsQuestions rs held)
   unfolding recordsQuestions recordQuestions nodeQuestions
   records-numbered [] held = (omega arith, omega arith, tt)
   records-numbered (r ∷ later) held =
-      numbered-append k (recordQuestions r held) (recordsQuestions later (heldAfter (r .node) held))
+      numbered-append j k (recordQuestions r held) (recordsQuestions later (heldAfter (r .node) held))
       (omega arith, omega arith, (omega arith, omega arith, (omega arith, omega arith, (omega arith, omega arith, (omega arith, omega arith, tt)))))
       (records-numbered later (heldAfter (r .node) held))
 
-  pub file-numbered : (file : List ℕ) → Numbered k (fileQuestions file)
-  unfolding fileQuestions trailerQuestions
-  file-numbered file =
-      numbered-append k (trailerQuestions file) (recordsQuestions (records file) 0)
-      (omega arith, omega arith, (omega arith, omega arith, (omega arith, omega arith, (omega arith, omega arith, (omega arith, omega arith, tt)))))
-      (records-numbered (records file) 0)
+pub file-numbered : (k : ℕ) → 11 ≤ k → (file : List ℕ) → Numbered 1 k (fileQuestions file)
+unfolding fileQuestions trailerQuestions
+file-numbered k h file =
+    numbered-append 1 k (trailerQuestions file) (recordsQuestions (records file) 0)
+    (omega arith, omega arith, (omega arith, omega arith, (omega arith, omega arith, (omega arith, omega arith, (omega arith, omega arith, tt)))))
+    (records-numbered 1 k (omega arith) h (records file) 0)

@@ -101,7 +101,7 @@ module _ (file : List ℕ) (ray : ViewRay) where
       go Yes f true true h = no-is-not-yes (sym h)
       go Yes f true false h = inr (inl cc)
       go Yes f false d h = inr (inr cc)
-      go (No m) f b d h = inl (no-numbered 11 (fileQuestions file) (file-numbered 11 (omega arith) file) (f ∙ h))
+      go (No m) f b d h = inl (no-numbered 1 11 (fileQuestions file) (file-numbered 11 (omega arith) file) (f ∙ h))
 
   abbrev steps : Ray
   steps = stepsRay ray

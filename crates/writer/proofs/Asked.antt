@@ -2,7 +2,8 @@
 -- a refusal has.
 use Prim.Native.Nat.{ℕ, _+_, _*_, _/_, _%_, _≤_}
 use native.Mathlib.Omega.{arith}
-use mathlib.Core.Path.{_≡_, refl}
+use mathlib.Core.Path.{_≡_, refl, sym, _∙_}
+use mathlib.Core.Logic.{inl, inr}
 use mathlib.Core.List.{List, [], _∷_, _++_, map}
 use mathlib.Core.Bool.{Bool, true, false, cond}
 use borrow.Author.Tests.{leb-true, eqb-true}
@@ -14,12 +15,12 @@ use Rattle.exact.proofs.Tests.{both-true, between-true}
 use Rattle.record.specs.Questions.{Question, firstNo, next}
 use Rattle.record.specs.declared.Verdict.{Verdict}
 use Rattle.record.specs.declared.Verdict.the-variants.{Yes, No}
-use Rattle.record.proofs.Questions.{firstNo-append, all-yes, yes-append, numbered-append, no-numbered}
+use Rattle.record.proofs.Questions.{firstNo-append, no-is-not-yes, all-yes, yes-append, no-numbered}
 use Rattle.part.specs.File.{recordsQuestions}
 use Rattle.part.proofs.File.{records-numbered}
 use Rattle.writer.specs.Bytes.{size}
 use Rattle.writer.specs.Given.{given, recordOf}
-use Rattle.writer.specs.Writer.{counted, hasRoom, writerQuestions}
+use Rattle.writer.specs.Writer.{counted, hasRoom, writerQuestions, WriteRefusal}
 use Rattle.writer.proofs.Given.{given-length}
 use Rattle.writer.proofs.Reading.{Writable}
 
@@ -97,12 +98,18 @@ module _ (l : List ℤ) (i room place : ℕ) where
         short = leb-true end 65536 (r .1);
       }
 
-  -- a refusal is 1 to 17
-  pub no-1-to-17 : {n : ℕ} → firstNo (writerQuestions l i room place) ≡ No n → (1 ≤ n) × (n ≤ 17)
-  unfolding writerQuestions
-  no-1-to-17 =
-      no-numbered 17 (writerQuestions l i room place)
-      (numbered-append 17 ((16, counted (length l)) ∷ (5, between 1 4096 i) ∷ recordsQuestions (map recordOf (given l)) 0)
-      ((17, hasRoom (length l / 6) room place) ∷ [])
-      (omega arith, omega arith, (omega arith, omega arith, records-numbered 17 (omega arith) (map recordOf (given l)) 0))
-      (omega arith, omega arith, tt))
+  -- the number of a refusal
+  pub refusal-number : {n : ℕ} → firstNo (writerQuestions l i room place) ≡ No n → WriteRefusal n
+  unfolding next
+  refusal-number {n} e = go (counted (length l)) (between 1 4096 i) nodesVerdict (hasRoom (length l / 6) room place) refl (sym in-order ∙ e)
+    where
+      go : (c t : Bool) (v : Verdict) (h : Bool) → nodesVerdict ≡ v → next (cond c (cond t v (No 5)) (No 16)) (cond h Yes (No 17)) ≡ No n
+          → WriteRefusal n
+      go false t v h is f = let m : 16 ≡ n = cc in inr (inl (sym m))
+      go true false v h is f = let m : 5 ≡ n = cc in inl (omega arith, omega arith)
+      go true true (No k) h is f =
+          let m : k ≡ n = cc in
+          let r = no-numbered 6 11 (recordsQuestions (map recordOf (given l)) 0) (records-numbered 6 11 (omega arith) (omega arith) (map recordOf (given l)) 0) is in
+          inl (omega (arith, r .0), omega (arith, r .1))
+      go true true Yes false is f = let m : 17 ≡ n = cc in inr (inr (sym m))
+      go true true Yes true is f = no-is-not-yes (sym f)

@@ -30,7 +30,7 @@ use Rattle.writer.specs.declared.Written.the-variants.{End}
 use Rattle.writer.proofs.Given.{given-length, numbers-given, given-numbers}
 use Rattle.writer.proofs.Reading.{Writable, length-part, part-accepted, part-nodes}
 use Rattle.writer.proofs.Rewriting.{rewritten, read-writable}
-use Rattle.writer.proofs.Asked.{Agreed, agreed, from-5, no-1-to-17}
+use Rattle.writer.proofs.Asked.{Agreed, agreed, from-5, refusal-number}
 use Rattle.writer.proofs.Buffer.{refused, answer-end, buffer-written}
 
 -- ---- what was given is read back, and all else is kept
@@ -85,8 +85,7 @@ module _ (l : List ℤ) (i : ℕ) (buffer : List ℕ) (place : ℕ) where
       go Yes ok = rw (answer-end l i buffer place ok) (written-part ok)
       go (No n) e =
           let r = refused l i buffer place e in
-          let k = no-1-to-17 l i (length buffer) place e in
-          rw (r .0) (e, k .0, k .1, r .1)
+          rw (r .0) (e, refusal-number l i (length buffer) place e, r .1)
 
 -- ---- what was read is the file again
 

@@ -1,6 +1,7 @@
 -- The writer (document 02, P2): its questions, its answer, what it leaves in the buffer, and what it promises of both.
 use Prim.Native.Nat.{ℕ, _+_, _/_, _%_, _≤_}
 use mathlib.Core.Path.{_≡_}
+use mathlib.Core.Logic.{_⊎_}
 use mathlib.Core.List.{List, [], _∷_, _++_, map}
 use mathlib.Core.Bool.{Bool, _&&_}
 use lib.ListN.{length, take, drop}
@@ -65,10 +66,14 @@ pub record WrittenPart (l : List ℤ) (iso : ℕ) (before : List ℕ) (place end
   pub within : end ≤ length before
   pub short : end ≤ 65536
 
+-- 5 to 11, 16 or 17
+abbrev pub WriteRefusal : ℕ → Type 0
+WriteRefusal number = ((5 ≤ number) × (number ≤ 11)) ⊎ (number ≡ 16) ⊎ (number ≡ 17)
+
 -- what each case of an answer says
 unfoldable pub WriteSays : List ℤ → ℕ → List ℕ → ℕ → Written → List ℕ → Type 0
 WriteSays l iso before place (Refused number) after =
-    (firstNo (writerQuestions l iso (length before) place) ≡ No number) × (1 ≤ number) × (number ≤ 17) × (after ≡ before)
+    (firstNo (writerQuestions l iso (length before) place) ≡ No number) × WriteRefusal number × (after ≡ before)
 WriteSays l iso before place (End end) after = WrittenPart l iso before place end after
 
 -- numbers and an iso-value that were read from an accepted file without leading bytes, and a buffer that is no shorter
