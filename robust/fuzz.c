@@ -1,8 +1,8 @@
 /*
- * The ten C entries under libFuzzer, each compared with the reference: the
- * number, every byte of the buffer, of the bounds and of the totals and around
- * them, and the file. What is lent lies against inaccessible pages. robust/fuzz
- * builds and runs it.
+ * The twelve C entries under libFuzzer, each compared with the reference: the
+ * number, every byte of the buffer, of the bounds, of the nodes' numbers and of
+ * the totals and around them, and the file and the numbers handed over. What is
+ * lent lies against inaccessible pages. robust/fuzz builds and runs it.
  *
  * An input is the ray lister's: A and B as six signed 16-bit numbers, the
  * budget unsigned 16 bits, then the file, little-endian. With fewer than 14
@@ -11,8 +11,12 @@
  * enough room and with a byte too little; a column with a byte more than it
  * needs, with a byte too little and with none; and the viewer's first hit with
  * the numbers as steps and as the upper halves of floats. Each casting call is
- * made plain and counted. The buffer is lent eleven times, so that a call's
- * changes sides from input to input.
+ * made plain and counted. The file's nodes are read, and what stands before its
+ * trailer is written as a part, two bytes for each number and the trailer's
+ * iso-value: at place 0 and at A's x, unsigned, with just enough room, and at
+ * A's y, below 0 a place near 2^64, with B's x, unsigned, as the room. The
+ * buffer is lent fifteen times, so that a call's changes sides from input to
+ * input.
  */
 #include "fenalukki.h"
 #include "lent.h"
@@ -24,6 +28,8 @@
 #define HEAD 14
 #define MARKS 1024
 #define COLUMN 128
+#define TRAILER 12
+#define NUMBERS 3066
 #define RAY c[0], c[1], c[2], c[3], c[4], c[5]
 
 int LLVMFuzzerTestOneInput(const uint8_t *data, size_t size);
@@ -46,6 +52,9 @@ uint32_t reference_column(const uint8_t *file, size_t file_len,
                           int32_t ax, int32_t ay, int32_t az,
                           int32_t bx, int32_t by, int32_t bz,
                           uint8_t *column, size_t column_len);
+uint32_t reference_write(const int32_t *numbers, size_t numbers_len, uint32_t iso,
+                         uint8_t *buffer, size_t buffer_len, size_t place);
+uint64_t reference_read(const uint8_t *file, size_t file_len, int32_t *numbers);
 
 struct input {
     const uint8_t *original; /* the file's bytes, for the reference */
@@ -55,10 +64,17 @@ struct input {
     uint32_t budget;
 };
 
+/* What a write is given. */
+struct drawing {
+    int32_t numbers[LENT_MOST / 4];
+    size_t count;
+    uint32_t iso;
+};
+
 /* The totals before a call: the ceiling is near, and reached. */
 static const uint32_t before[3] = {5, UINT32_MAX - 20, UINT32_MAX};
 
-static struct lent file, buffer, totals;
+static struct lent file, buffer, totals, given;
 
 static uint32_t unsigned_at(const uint8_t *at)
 {
@@ -191,6 +207,60 @@ static void compare_file(const struct input *in)
                          reference_check(in->original, in->length) ? NULL : "the number");
 }
 
+static void compare_read(const struct input *in)
+{
+    static int32_t numbers[NUMBERS];
+    uint64_t right = reference_read(in->original, in->length, numbers);
+    uint64_t found = fenalukki_read(in->lent, in->length, (int32_t *)(void *)lend(
+                                    &buffer, NULL, sizeof numbers));
+    size_t nodes = (size_t)(right >> 16 & 0xffff);
+
+    expect("read", found, right, numbers, nodes * 6 * sizeof *numbers);
+}
+
+static void compare_write(const struct drawing *d, size_t place, size_t room)
+{
+    static uint8_t bytes[LENT_MOST];
+    size_t length = d->count * sizeof *d->numbers, written = 0;
+    uint32_t found, right = reference_write(d->numbers, d->count, d->iso, bytes, room, place);
+    const uint8_t *numbers = lend(&given, d->numbers, length);
+
+    if (right >= 65536)
+        written = right - 65536 - place;
+    lent_protect(&given);
+    found = fenalukki_write((const int32_t *)(const void *)numbers, d->count, d->iso,
+                            lend(&buffer, NULL, room), room, place);
+    expect_same("write", found == right ? NULL : "the number");
+    expect_same("write", take_back_from(&buffer, place, written == 0 ? bytes : bytes + place,
+                                        written));
+    expect_same("the numbers", take_back(&given, d->numbers, length));
+}
+
+/* Takes what stands before the trailer as a drawing; nothing of a short file. */
+static void read_drawing(struct drawing *d, const struct input *in)
+{
+    size_t i;
+
+    d->count = in->length < TRAILER ? 0 : (in->length - TRAILER) / 2;
+    if (d->count > sizeof d->numbers / sizeof *d->numbers)
+        d->count = 0;
+    d->iso = in->length < TRAILER ? 0 : unsigned_at(in->original + in->length - TRAILER);
+    for (i = 0; i < d->count; i++)
+        d->numbers[i] = signed_at(in->original + 2 * i);
+}
+
+static void compare_writes(const struct input *in)
+{
+    static struct drawing drawing;
+    size_t bytes, place = in->ray[0] & 0xffff;
+
+    read_drawing(&drawing, in);
+    bytes = 12 * (drawing.count / 6 + 1);
+    compare_write(&drawing, 0, bytes);
+    compare_write(&drawing, place, place + bytes > LENT_MOST ? 0 : place + bytes);
+    compare_write(&drawing, (size_t)(int64_t)in->ray[1], in->ray[3] & 0xffff);
+}
+
 static void read_input(struct input *in, const uint8_t *data, size_t size)
 {
     static const uint8_t zeros[HEAD];
@@ -213,6 +283,7 @@ int LLVMFuzzerTestOneInput(const uint8_t *data, size_t size)
         lent_open(&file, 1);
         lent_open(&buffer, 1);
         lent_open(&totals, 1);
+        lent_open(&given, 1);
         opened = 1;
     }
     read_input(&in, data, size);
@@ -228,6 +299,8 @@ int LLVMFuzzerTestOneInput(const uint8_t *data, size_t size)
     compare_first_hit(&in);
     compare_viewers(&in);
     compare_file(&in);
+    compare_read(&in);
+    compare_writes(&in);
     expect_same("the file", take_back(&file, in.original, in.length));
     return 0;
 }

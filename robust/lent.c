@@ -103,18 +103,20 @@ static int same(const void *a, const void *b, size_t length)
 }
 
 /* What differs, before the bytes are given away. */
-static const char *difference(const struct lent *lent, const void *expected, size_t written)
+static const char *difference(const struct lent *lent, size_t place, const void *expected,
+                              size_t written)
 {
     const uint8_t *as_lent = expected_pattern(lent);
-    size_t before, after;
+    size_t before, after, end = place + written;
 
     if (lent->length == 0)
         return NULL;
     before = (size_t)(lent->bytes - lent->start);
     after = before + lent->length;
-    if (!same(lent->bytes, expected, written))
+    if (!same(lent->bytes + place, expected, written))
         return "bytes that are written";
-    if (!same(lent->bytes + written, as_lent + before + written, lent->length - written))
+    if (!same(lent->bytes, as_lent + before, place) ||
+        !same(lent->bytes + end, as_lent + before + end, lent->length - end))
         return "bytes that are not written";
     if (!same(lent->start, as_lent, before))
         return "bytes before it";
@@ -125,7 +127,12 @@ static const char *difference(const struct lent *lent, const void *expected, siz
 
 const char *take_back(struct lent *lent, const void *expected, size_t written)
 {
-    const char *found = difference(lent, expected, written);
+    return take_back_from(lent, 0, expected, written);
+}
+
+const char *take_back_from(struct lent *lent, size_t place, const void *expected, size_t written)
+{
+    const char *found = difference(lent, written == 0 ? 0 : place, expected, written);
 
     if (lent->pages == NULL)
         free(lent->start);

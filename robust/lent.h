@@ -40,4 +40,8 @@ void lent_protect(struct lent *lent);
  * differs. */
 const char *take_back(struct lent *lent, const void *expected, size_t written);
 
+/* The same, where the written bytes begin at a place of those lent; any place
+ * where none is written. */
+const char *take_back_from(struct lent *lent, size_t place, const void *expected, size_t written);
+
 #endif

@@ -1,13 +1,15 @@
 /*
  * A host that makes the requests of a stream and compares each answer with the
- * reference's: the number, every byte of the buffer or of the two bounds and
- * around it, the totals and what lies around them, and the file.
+ * reference's: the number, every byte of the buffer, of the two bounds or of the
+ * nodes' numbers and around it, the totals and what lies around them, and the
+ * file or the numbers that the call is handed.
  * reference/examples/requests makes the stream and describes it.
  *
  *     replay pages|heap < STREAM
  *
- * With pages, each lent piece lies against an inaccessible page and the file is
- * read-only during the call; with heap, each is a block of exactly its length.
+ * With pages, each lent piece lies against an inaccessible page and what is
+ * handed over is read-only during the call; with heap, each is a block of
+ * exactly its length.
  * Ends "N requests, 0 differ" and with status 0, or with the first difference,
  * or a kind of answer that is rare, and status 1.
  */
@@ -21,9 +23,9 @@
 #include <string.h>
 #include <unistd.h>
 
-#define HEAD 76
+#define HEAD 84
 #define KINDS 5
-#define QUESTIONS 16
+#define QUESTIONS 18
 /* A kind of answer is rare below one in so many requests. */
 #define RARE 1000
 
@@ -38,16 +40,19 @@ enum call {
     VIEW_COUNTED,
     CHECK,
     BOUNDS,
+    WRITE,
+    READ,
     CALLS
 };
 
 struct request {
     unsigned call;
     int damaged;
-    uint32_t ray[6], budget, before[3], after[3];
-    size_t file_len, room, written;
+    uint32_t ray[6], limit, before[3], after[3]; /* limit: the budget, or a write's iso */
+    size_t handed_len, room, written, place;
     uint64_t number;
-    uint8_t file[LENT_MOST], expected[1024];
+    uint8_t handed[LENT_MOST]; /* the file, or the numbers that a write is given */
+    uint8_t expected[4 * 3066];
 };
 
 /* The kinds of an answer, by its number's bits from a place on: refused, then these. */
@@ -61,6 +66,8 @@ static const struct kinds hit_kinds = {32, {"refused", "crossing", "inside", "cl
 static const struct kinds column_kinds = {16, {"refused", "complete", NULL, NULL, NULL}};
 static const struct kinds check_kinds = {32, {"refused", "accepted", NULL, NULL, NULL}};
 static const struct kinds bounds_kinds = {16, {"refused", "answered", NULL, NULL, NULL}};
+static const struct kinds write_kinds = {
+    16, {"refused", "written", "written to byte 65,536", NULL, NULL}};
 
 static const struct {
     const char *name;
@@ -76,6 +83,8 @@ static const struct {
     {"viewer's first hit counted", &hit_kinds},
     {"check of a file", &check_kinds},
     {"bounds at a place", &bounds_kinds},
+    {"write", &write_kinds},
+    {"read", &check_kinds},
 };
 
 static unsigned long requests, damaged, damaged_accepted;
@@ -85,6 +94,11 @@ static char during_call[64];
 static uint32_t number_at(const uint8_t *at)
 {
     return at[0] | (uint32_t)at[1] << 8 | (uint32_t)at[2] << 16 | (uint32_t)at[3] << 24;
+}
+
+static uint64_t wide_at(const uint8_t *at)
+{
+    return number_at(at) | (uint64_t)number_at(at + 4) << 32;
 }
 
 static void numbers_at(const uint8_t *at, uint32_t *to, size_t count)
@@ -108,6 +122,15 @@ static void read_bytes(uint8_t *to, size_t length)
         end_broken();
 }
 
+/* Ends the program unless the request's lengths fit. */
+static void end_if_broken(const struct request *r)
+{
+    if (r->call >= CALLS || r->handed_len > LENT_MOST || r->room > LENT_MOST ||
+        r->written > r->room || r->written > sizeof r->expected ||
+        (r->written > 0 && r->place > r->room - r->written))
+        end_broken();
+}
+
 /* Reads the next request; answers 0 at the stream's end. */
 static int read_request(struct request *r)
 {
@@ -120,18 +143,17 @@ static int read_request(struct request *r)
         end_broken();
     r->call = head[0];
     r->damaged = head[1];
-    r->file_len = number_at(head + 4);
+    r->handed_len = number_at(head + 4);
     numbers_at(head + 8, r->ray, 6);
-    r->budget = number_at(head + 32);
+    r->limit = number_at(head + 32);
     r->room = number_at(head + 36);
     numbers_at(head + 40, r->before, 3);
-    r->number = number_at(head + 52) | (uint64_t)number_at(head + 56) << 32;
+    r->number = wide_at(head + 52);
     numbers_at(head + 60, r->after, 3);
     r->written = number_at(head + 72);
-    if (r->call >= CALLS || r->file_len > LENT_MOST || r->room > LENT_MOST ||
-        r->written > r->room || r->written > sizeof r->expected)
-        end_broken();
-    read_bytes(r->file, r->file_len);
+    r->place = (size_t)wide_at(head + 76);
+    end_if_broken(r);
+    read_bytes(r->handed, r->handed_len);
     read_bytes(r->expected, r->written);
     return 1;
 }
@@ -143,45 +165,63 @@ static uint64_t viewer_answer(const struct request *r, const uint8_t *file, uint
 
     memcpy(c, r->ray, sizeof c);
     if (r->call == VIEW)
-        return fenalukki_viewer_first_hit(file, r->file_len, c[0], c[1], c[2], c[3], c[4], c[5],
-                                          r->budget);
-    return fenalukki_viewer_first_hit_counted(file, r->file_len, c[0], c[1], c[2], c[3], c[4],
-                                              c[5], r->budget, totals);
+        return fenalukki_viewer_first_hit(file, r->handed_len, c[0], c[1], c[2], c[3], c[4], c[5],
+                                          r->limit);
+    return fenalukki_viewer_first_hit_counted(file, r->handed_len, c[0], c[1], c[2], c[3], c[4],
+                                              c[5], r->limit, totals);
 }
 
-/* Makes another call. */
-static uint64_t answer(const struct request *r, const uint8_t *file, uint8_t *buffer,
-                       uint32_t *totals)
+/* Makes another casting call. */
+static uint64_t cast_answer(const struct request *r, const uint8_t *file, uint8_t *buffer,
+                            uint32_t *totals)
 {
     int32_t c[6];
 
     memcpy(c, r->ray, sizeof c);
     switch (r->call) {
     case FULL_CAST:
-        return fenalukki_full_cast(file, r->file_len, c[0], c[1], c[2], c[3], c[4], c[5],
-                                   r->budget, buffer, r->room);
+        return fenalukki_full_cast(file, r->handed_len, c[0], c[1], c[2], c[3], c[4], c[5],
+                                   r->limit, buffer, r->room);
     case FIRST_HIT:
-        return fenalukki_first_hit(file, r->file_len, c[0], c[1], c[2], c[3], c[4], c[5],
-                                   r->budget);
+        return fenalukki_first_hit(file, r->handed_len, c[0], c[1], c[2], c[3], c[4], c[5],
+                                   r->limit);
     case COLUMN:
-        return fenalukki_column(file, r->file_len, c[0], c[1], c[2], c[3], c[4], c[5], buffer,
+        return fenalukki_column(file, r->handed_len, c[0], c[1], c[2], c[3], c[4], c[5], buffer,
                                 r->room);
     case FULL_CAST_COUNTED:
-        return fenalukki_full_cast_counted(file, r->file_len, c[0], c[1], c[2], c[3], c[4], c[5],
-                                           r->budget, buffer, r->room, totals);
+        return fenalukki_full_cast_counted(file, r->handed_len, c[0], c[1], c[2], c[3], c[4], c[5],
+                                           r->limit, buffer, r->room, totals);
     case FIRST_HIT_COUNTED:
-        return fenalukki_first_hit_counted(file, r->file_len, c[0], c[1], c[2], c[3], c[4], c[5],
-                                           r->budget, totals);
+        return fenalukki_first_hit_counted(file, r->handed_len, c[0], c[1], c[2], c[3], c[4], c[5],
+                                           r->limit, totals);
     case COLUMN_COUNTED:
-        return fenalukki_column_counted(file, r->file_len, c[0], c[1], c[2], c[3], c[4], c[5],
+        return fenalukki_column_counted(file, r->handed_len, c[0], c[1], c[2], c[3], c[4], c[5],
                                         buffer, r->room, totals);
-    case CHECK:
-        return fenalukki_check(file, r->file_len);
-    case BOUNDS:
-        return fenalukki_place_bounds(file, r->file_len, c[0], c[1], c[2],
-                                      (int64_t *)(void *)buffer);
     default:
         return viewer_answer(r, file, totals);
+    }
+}
+
+/* Makes a call. */
+static uint64_t answer(const struct request *r, const uint8_t *handed, uint8_t *buffer,
+                       uint32_t *totals)
+{
+    int32_t c[3];
+
+    memcpy(c, r->ray, sizeof c);
+    switch (r->call) {
+    case CHECK:
+        return fenalukki_check(handed, r->handed_len);
+    case BOUNDS:
+        return fenalukki_place_bounds(handed, r->handed_len, c[0], c[1], c[2],
+                                      (int64_t *)(void *)buffer);
+    case WRITE:
+        return fenalukki_write((const int32_t *)(const void *)handed, r->handed_len / 4, r->limit,
+                               buffer, r->room, r->place);
+    case READ:
+        return fenalukki_read(handed, r->handed_len, (int32_t *)(void *)buffer);
+    default:
+        return cast_answer(r, handed, buffer, totals);
     }
 }
 
@@ -194,21 +234,22 @@ static int differs(const struct request *r, const char *where, const char *what)
 }
 
 /* Makes the request and compares; answers whether anything differs. */
-static int replay(const struct request *r, struct lent *file, struct lent *buffer,
+static int replay(const struct request *r, struct lent *handed, struct lent *buffer,
                   struct lent *totals)
 {
     uint64_t number;
-    const uint8_t *file_bytes = lend(file, r->file, r->file_len);
+    const char *name = r->call == WRITE ? "the numbers" : "the file";
+    const uint8_t *handed_bytes = lend(handed, r->handed, r->handed_len);
     uint8_t *buffer_bytes = lend(buffer, NULL, r->room);
     uint32_t *three = (uint32_t *)(void *)lend(totals, r->before, sizeof r->before);
     int found;
 
-    lent_protect(file);
+    lent_protect(handed);
     snprintf(during_call, sizeof during_call, "request %lu, %s: ", requests, calls[r->call].name);
-    number = answer(r, file_bytes, buffer_bytes, three);
+    number = answer(r, handed_bytes, buffer_bytes, three);
     during_call[0] = 0;
-    found = differs(r, "the file", take_back(file, r->file, r->file_len));
-    found |= differs(r, "the buffer", take_back(buffer, r->expected, r->written));
+    found = differs(r, name, take_back(handed, r->handed, r->handed_len));
+    found |= differs(r, "the buffer", take_back_from(buffer, r->place, r->expected, r->written));
     found |= differs(r, "the totals", take_back(totals, r->after, sizeof r->after));
     if (number == r->number)
         return found;
@@ -275,7 +316,7 @@ static int print_counts(void)
     for (call = 0; call < CALLS; call++)
         rare |= print_call(call);
     rare |= print_refusals();
-    printf("on damaged files:");
+    printf("on damaged files and drawings:");
     rare |= print_count("all", damaged);
     rare |= print_count("accepted", damaged_accepted);
     printf("\n");
@@ -285,7 +326,7 @@ static int print_counts(void)
 /* An access to a page that was not lent. */
 static void on_fault(int number)
 {
-    static const char text[] = "an access outside the lent bytes, or a write to the file\n";
+    static const char text[] = "an access outside the lent bytes, or a write to those handed over\n";
     ssize_t put = write(1, during_call, strlen(during_call));
 
     put += write(1, text, sizeof text - 1);
@@ -314,21 +355,21 @@ static void catch_faults(void)
 int main(int argc, char **argv)
 {
     static struct request request;
-    static struct lent file, buffer, totals;
+    static struct lent handed, buffer, totals;
     int on_pages = argc == 2 && strcmp(argv[1], "pages") == 0;
 
     if (!on_pages && !(argc == 2 && strcmp(argv[1], "heap") == 0)) {
         fprintf(stderr, "replay pages|heap < STREAM\n");
         return 2;
     }
-    lent_open(&file, on_pages);
+    lent_open(&handed, on_pages);
     lent_open(&buffer, on_pages);
     lent_open(&totals, on_pages);
     if (on_pages)
         catch_faults();
     while (read_request(&request)) {
         requests++;
-        if (replay(&request, &file, &buffer, &totals))
+        if (replay(&request, &handed, &buffer, &totals))
             return 1;
         count(&request);
     }

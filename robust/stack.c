@@ -12,13 +12,15 @@
 #include <string.h>
 #include <ucontext.h>
 
-enum { STACK = 1 << 20, MOST = 32768, PATTERN = 0xa5, ENTRIES = 10 };
+enum { STACK = 1 << 20, MOST = 32768, PATTERN = 0xa5, ENTRIES = 12 };
 
 #define RAY -2047, -2047, -300, 2047, 2047, 300
 #define FLOATS -2047.0f / 64, -2047.0f / 64, -300.0f / 64, 2047.0f / 64, 2047.0f / 64, 300.0f / 64
 
-static uint8_t part[65537], buffer[1024], stack[STACK];
+static uint8_t part[65537], buffer[1024], written[65536], stack[STACK];
 static size_t length;
+static int32_t numbers[3066]; /* of the part's nodes, once they are read */
+static size_t numbers_len;
 static uint32_t totals[3];
 static int64_t bounds[2];
 static uint64_t number; /* the last call's */
@@ -73,6 +75,16 @@ static void place_bounds(void)
     number = fenalukki_place_bounds(part, length, 10, 20, 30, bounds);
 }
 
+static void read_nodes(void)
+{
+    number = fenalukki_read(part, length, numbers);
+}
+
+static void write_part(void)
+{
+    number = fenalukki_write(numbers, numbers_len, 1, written, sizeof written, 12);
+}
+
 static struct {
     const char *name;
     void (*run)(void);
@@ -88,6 +100,8 @@ static struct {
     {"viewer's first hit counted", viewer_first_hit_counted, 0},
     {"check of a file", check, 0},
     {"bounds at a place", place_bounds, 0},
+    {"write", write_part, 0},
+    {"read", read_nodes, 0},
 };
 
 static size_t used_by(void (*entry)(void))
@@ -114,6 +128,7 @@ static void read_part(const char *path)
     length = file ? fread(part, 1, sizeof part, file) : 0;
     if (file)
         fclose(file);
+    numbers_len = 6 * (size_t)fenalukki_nodes(fenalukki_read(part, length, numbers));
 }
 
 /* Answers whether a call is refused. */

@@ -14,6 +14,7 @@
 #define ENDS int32_t ax, int32_t ay, int32_t az, int32_t bx, int32_t by, int32_t bz
 #define FLOATS float ax, float ay, float az, float bx, float by, float bz
 #define RAY ax, ay, az, bx, by, bz
+#define NUMBERS const int32_t *numbers, size_t numbers_len
 /* The numbers of an accepted call: of one probe, complete or clear. */
 #define COMPLETE 65537u
 #define CLEAR (UINT64_C(3) << 32 | 1)
@@ -34,6 +35,9 @@ uint64_t __real_fenalukki_viewer_first_hit_counted(FILE_BYTES, FLOATS, uint32_t 
 uint64_t __real_fenalukki_check(FILE_BYTES);
 uint32_t __real_fenalukki_place_bounds(FILE_BYTES, int32_t x, int32_t y, int32_t z,
                                        int64_t *bounds);
+uint32_t __real_fenalukki_write(NUMBERS, uint32_t iso, uint8_t *buffer, size_t buffer_len,
+                                size_t place);
+uint64_t __real_fenalukki_read(FILE_BYTES, int32_t *numbers);
 
 static volatile uint8_t seen;
 
@@ -53,6 +57,16 @@ static size_t told_file(size_t length)
 static size_t told_room(size_t length)
 {
     return wrong("tells-more-room") ? length + 1 : length;
+}
+
+static size_t told_numbers(size_t count)
+{
+    return wrong("tells-more-numbers") ? count + 6 : count;
+}
+
+static size_t told_part_room(size_t length)
+{
+    return wrong("tells-more-room-for-part") ? length + 1 : length;
 }
 
 /* Reads what it should not read of a file, or writes to it. */
@@ -410,5 +424,167 @@ uint32_t __wrap_fenalukki_place_bounds(FILE_BYTES, int32_t x, int32_t y, int32_t
         bounds[-1] = 0;
     if (wrong("passes-place-2048") && number == 12 && is_step(x, y, z, 2048))
         number = 65536;
+    return number;
+}
+
+/* Reads what it should not read of the numbers, or changes one. */
+static void touch_numbers(NUMBERS)
+{
+    if (wrong("reads-past-numbers") && numbers_len > 0)
+        seen = (uint8_t)numbers[numbers_len];
+    if (wrong("reads-before-numbers") && numbers_len > 0)
+        seen = (uint8_t)numbers[-1];
+    if (wrong("reads-no-numbers") && numbers_len == 0)
+        seen = (uint8_t)*(const volatile int32_t *)numbers;
+    if (wrong("changes-a-number") && numbers_len > 0)
+        ((int32_t *)numbers)[numbers_len / 2] ^= 1;
+}
+
+/* Writes what it should not write of a part's buffer, or leaves a byte. */
+static void touch_part(uint32_t number, uint8_t *buffer, size_t length, size_t place)
+{
+    int refused = number < 65536;
+    size_t end = refused ? 0 : number - 65536;
+
+    if (wrong("part-past-room") && length > 0)
+        buffer[length] = 0;
+    if (wrong("part-before-room") && length > 0)
+        buffer[-1] = 0;
+    if (wrong("part-no-room") && length == 0)
+        *(volatile uint8_t *)buffer = 0;
+    if (wrong("clears-before-place") && !refused && place > 0)
+        buffer[place - 1] = 0;
+    if (wrong("clears-after-trailer") && !refused && end < length)
+        buffer[end] = 0;
+    if (wrong("part-though-refused") && refused && place < length)
+        buffer[place] = 1;
+    if (wrong("leaves-zero-byte") && !refused)
+        buffer[place + 1] = 0x80;
+}
+
+static void put_bytes(uint8_t *at, uint32_t number)
+{
+    at[0] = (uint8_t)number;
+    at[1] = (uint8_t)(number >> 8);
+}
+
+/* Writes one record otherwise. */
+static void miswrite_record(uint8_t *record)
+{
+    uint32_t x = bytes_at(record + 4), y = bytes_at(record + 6);
+
+    if (wrong("x-and-y-exchanged")) {
+        put_bytes(record + 4, y);
+        put_bytes(record + 6, x);
+    }
+    if (wrong("sign-lost") && x >= 32768)
+        put_bytes(record + 4, 65536 - x);
+}
+
+/* Writes records or the trailer of a part otherwise. */
+static void miswrite(uint8_t *part, uint8_t *trailer)
+{
+    uint8_t *record;
+
+    for (record = part; record < trailer; record += 12)
+        miswrite_record(record);
+    if (wrong("distance-without-trailer"))
+        put_bytes(trailer + 4, (uint32_t)(trailer - part));
+    if (wrong("version-2"))
+        trailer[2] = 2;
+    if (wrong("iso-less-one"))
+        put_bytes(trailer, bytes_at(trailer) - 1);
+}
+
+/* The number as its lower 16 bits have it, signed. */
+static int32_t in_16_bits(int32_t number)
+{
+    int32_t low = number & 0xffff;
+
+    return low < 32768 ? low : low - 65536;
+}
+
+/* A copy of the numbers of which only lower bits are taken; the numbers
+ * themselves where that changes nothing. */
+static const int32_t *narrowed(NUMBERS)
+{
+    static int32_t copy[LENT_MOST / 4];
+    size_t i;
+
+    for (i = 0; i < numbers_len; i++) {
+        copy[i] = numbers[i];
+        if (wrong("numbers-in-16-bits"))
+            copy[i] = in_16_bits(numbers[i]);
+        if (wrong("kinds-in-8-bits") && i % 6 == 0)
+            copy[i] = numbers[i] & 0xff;
+    }
+    if (numbers_len == 0 || memcmp(copy, numbers, numbers_len * sizeof *copy) == 0)
+        return numbers;
+    return copy;
+}
+
+/* The number of a write by a wrong limit, or by questions in another order. */
+static uint32_t miswritten(size_t numbers_len, size_t length, size_t place, uint32_t number)
+{
+    size_t end = place + 12 * (numbers_len / 6 + 1);
+    int wraps = end < place, fits = !wraps && end <= length && end <= 65536;
+
+    if (wrong("asks-17-before-11") && number == 11 && !fits)
+        return 17;
+    if (wrong("passes-512-nodes") && number == 16 && numbers_len == 3072)
+        return 65536 + (uint32_t)end;
+    if (wrong("refuses-511-nodes") && number >= 65536 && numbers_len == 3066)
+        return 16;
+    if (wrong("passes-7-numbers") && number == 16 && numbers_len == 7)
+        return 65536 + (uint32_t)end;
+    if (wrong("passes-end-65537") && number == 17 && end == 65537 && length >= end)
+        return 65536 + (uint32_t)end;
+    if (wrong("refuses-end-65536") && number == 131072)
+        return 17;
+    if (wrong("refuses-exact-room") && number >= 65536 && end == length)
+        return 17;
+    if (wrong("place-wraps") && number == 17 && wraps && end <= length)
+        return 65536 + (uint32_t)end;
+    if (wrong("answers-length") && number >= 65536)
+        return number - (uint32_t)place;
+    return number;
+}
+
+uint32_t __wrap_fenalukki_write(NUMBERS, uint32_t iso, uint8_t *buffer, size_t buffer_len,
+                                size_t place)
+{
+    uint32_t told_iso = wrong("iso-in-16-bits") ? iso & 0xffff : iso;
+    uint32_t number = __real_fenalukki_write(narrowed(numbers, numbers_len),
+                                             told_numbers(numbers_len), told_iso, buffer,
+                                             told_part_room(buffer_len), place);
+
+    touch_numbers(numbers, numbers_len);
+    touch_part(number, buffer, buffer_len, place);
+    if (number >= 65536)
+        miswrite(buffer + place, buffer + (number - 65536 - 12));
+    return miswritten(numbers_len, buffer_len, place, number);
+}
+
+uint64_t __wrap_fenalukki_read(FILE_BYTES, int32_t *numbers)
+{
+    uint64_t number = __real_fenalukki_read(file, told_file(file_len), numbers);
+    size_t nodes = (size_t)(number >> 16 & 0xffff);
+    int refused = number < 65536;
+
+    touch_file(file, file_len);
+    if (wrong("number-lost") && !refused)
+        numbers[1] = 0;
+    if (wrong("number-past-nodes") && !refused && nodes < 511)
+        numbers[6 * nodes] = 0;
+    if (wrong("numbers-though-refused") && refused)
+        numbers[0] = 0;
+    if (wrong("writes-past-numbers"))
+        numbers[3066] = 0;
+    if (wrong("writes-before-numbers"))
+        numbers[-1] = 0;
+    if (wrong("read-sign-lost") && !refused && numbers[2] < 0)
+        numbers[2] = -numbers[2];
+    if (wrong("read-node-too-few") && !refused)
+        number -= 65536;
     return number;
 }

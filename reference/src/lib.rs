@@ -4,6 +4,7 @@
 //! - [`big`]: whole numbers of any size.
 //! - [`fraction`]: exact fractions.
 //! - [`part`]: the part file, its questions and a builder.
+//! - [`write`]: the numbers of a part's nodes, and part files written from them.
 //! - [`field`]: the exact field, bounds of spans and places, the tolerance.
 //! - [`quick`]: bounds of spans with whole numbers at their ends.
 //! - [`cast`]: bounds at a place, full cast, first hit and column.
@@ -25,3 +26,4 @@ pub mod part;
 pub mod quick;
 pub mod totals;
 pub mod view;
+pub mod write;

@@ -28,10 +28,10 @@ pub enum Kind {
 pub const OPERATORS: [Kind; 4] = [Kind::Sum, Kind::Greater, Kind::Lesser, Kind::Cut];
 
 impl Kind {
-    /// The kind that the byte stands for, or question 6's refusal.
-    fn of(byte: u8) -> Result<Kind, u32> {
+    /// The kind that the number stands for, or question 6's refusal.
+    pub(crate) fn of(number: i32) -> Result<Kind, u32> {
         let mut kinds = [Kind::Point].into_iter().chain(OPERATORS);
-        kinds.find(|&kind| kind as u8 == byte).ok_or(6)
+        kinds.find(|&kind| kind as i32 == number).ok_or(6)
     }
 }
 
@@ -74,12 +74,10 @@ pub fn read(file: &[u8]) -> Result<Part, u32> {
     let mut held = 0u32;
     for record in records.chunks_exact(RECORD) {
         let node = decode(record)?;
-        held = hold(&node, held)?;
+        held = hold(node.kind, held)?;
         nodes.push(node);
     }
-    if held != 1 {
-        return Err(11);
-    }
+    hold_one(held)?;
     Ok(Part { iso, nodes })
 }
 
@@ -101,15 +99,18 @@ fn split(file: &[u8]) -> Result<(&[u8], u16), u32> {
         return Err(4);
     }
     let iso = unsigned(trailer, 0);
-    if !(1..=4096).contains(&iso) {
-        return Err(5);
-    }
+    iso_in_range(iso.into())?;
     Ok((&before[file.len() - distance..], iso))
+}
+
+/// Question 5.
+pub(crate) fn iso_in_range(iso: u32) -> Result<(), u32> {
+    (1..=4096).contains(&iso).then_some(()).ok_or(5)
 }
 
 /// Questions 6 to 8 on one record of 12 bytes.
 fn decode(record: &[u8]) -> Result<Node, u32> {
-    let kind = Kind::of(record[0])?;
+    let kind = Kind::of(record[0].into())?;
     let zeros = match kind {
         Kind::Point => &record[1..2],
         _ => &record[1..RECORD],
@@ -125,28 +126,34 @@ fn decode(record: &[u8]) -> Result<Node, u32> {
         z: signed(record, 8),
         w: signed(record, 10),
     };
-    if kind == Kind::Point && !in_range(&node) {
-        return Err(8);
+    if kind == Kind::Point {
+        point_in_range(node.r.into(), [node.x, node.y, node.z], node.w)?;
     }
     Ok(node)
 }
 
-/// Question 8's ranges.
-fn in_range(node: &Node) -> bool {
+/// Question 8.
+pub(crate) fn point_in_range<T: Into<i32>>(r: i32, centre: [T; 3], w: T) -> Result<(), u32> {
     let reach = -2047..=2047;
-    (1..=1024).contains(&node.r)
-        && [node.x, node.y, node.z].iter().all(|c| reach.contains(c))
-        && (-4096..=4096).contains(&node.w)
+    let right = (1..=1024).contains(&r)
+        && centre.into_iter().all(|c| reach.contains(&c.into()))
+        && (-4096..=4096).contains(&w.into());
+    right.then_some(()).ok_or(8)
 }
 
-/// Questions 9 and 10: the number of values held after the node.
-fn hold(node: &Node, held: u32) -> Result<u32, u32> {
-    match node.kind {
+/// Questions 9 and 10: the number of values held after a node of the kind.
+pub(crate) fn hold(kind: Kind, held: u32) -> Result<u32, u32> {
+    match kind {
         Kind::Point if held < 64 => Ok(held + 1),
         Kind::Point => Err(10),
         _ if held >= 2 => Ok(held - 1),
         _ => Err(9),
     }
+}
+
+/// Question 11.
+pub(crate) fn hold_one(held: u32) -> Result<(), u32> {
+    (held == 1).then_some(()).ok_or(11)
 }
 
 fn unsigned(bytes: &[u8], at: usize) -> u16 {

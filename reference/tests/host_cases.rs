@@ -12,6 +12,7 @@ use reference::field::{Bounds, Ray};
 use reference::generate::fault;
 use reference::part::FileBuilder;
 use reference::view::in_millimetres;
+use reference::write::MOST_NUMBERS;
 use std::fs;
 use std::path::{Path, PathBuf};
 use std::process::Command;
@@ -232,6 +233,16 @@ fn most_records() -> (Vec<u8>, Ray) {
     (file.build(), at_y(300))
 }
 
+/// Reads a file of the most records and writes it again.
+fn read_and_write(file: &[u8]) {
+    let (mut numbers, mut again) = (vec![7; MOST_NUMBERS], vec![7; file.len()]);
+    let array = numbers.as_mut_slice().try_into().expect("so many");
+    assert_eq!(entries::read(file, array), entries::check(file));
+    let end = 65_536 + file.len() as u32;
+    assert_eq!(entries::write(&numbers, 1, &mut again, 0), end);
+    assert_eq!(again, file);
+}
+
 #[test]
 fn a_stack_of_64_kib() {
     let calls = || {
@@ -254,6 +265,7 @@ fn a_stack_of_64_kib() {
         assert_eq!((totals[0], totals[2]), (4, 0));
         assert_eq!(entries::check(&file) >> 16, 65_536 + 511);
         assert_eq!(entries::place_bounds(&file, ray.a, &mut bounds), 65_536);
+        read_and_write(&file);
     };
     let small = thread::Builder::new().stack_size(64 * 1024);
     small.spawn(calls).expect("starts").join().expect("ends");

@@ -7,6 +7,7 @@ mod expected;
 use reference::cast;
 use reference::field::Ray;
 use reference::view::ViewRay;
+use reference::write::MOST_NUMBERS;
 use std::slice;
 
 /// The bytes of a file.
@@ -149,4 +150,41 @@ pub unsafe extern "C" fn reference_place_bounds(
 ) -> u32 {
     let bounds = bytes_mut(bounds, 16);
     expected::bounds_number(bytes(file, file_len), [x, y, z], bounds) as u32
+}
+
+/// The number of a write.
+///
+/// # Safety
+///
+/// As the header says of `fenalukki_write`.
+#[no_mangle]
+pub unsafe extern "C" fn reference_write(
+    numbers: *const i32,
+    numbers_len: usize,
+    iso: u32,
+    buffer: *mut u8,
+    buffer_len: usize,
+    place: usize,
+) -> u32 {
+    let numbers = match numbers_len {
+        0 => &[],
+        _ => slice::from_raw_parts(numbers, numbers_len),
+    };
+    let buffer = bytes_mut(buffer, buffer_len);
+    expected::write_number(numbers, iso, buffer, place)
+}
+
+/// The number of a read.
+///
+/// # Safety
+///
+/// As the header says of `fenalukki_read`.
+#[no_mangle]
+pub unsafe extern "C" fn reference_read(
+    file: *const u8,
+    file_len: usize,
+    numbers: *mut i32,
+) -> u64 {
+    let numbers = slice::from_raw_parts_mut(numbers, MOST_NUMBERS);
+    expected::read_number(bytes(file, file_len), numbers)
 }

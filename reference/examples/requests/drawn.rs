@@ -1,16 +1,18 @@
 //! Requests drawn at random.
 
 use crate::damaged::damaged;
+use crate::drawings::{self, placed, Drawing};
 use crate::floats::changed;
 use crate::request::{casting, is_counted, need, six};
-use crate::request::{Request, BOUNDS, CHECK, COLUMN, COUNTED, FIRST_HIT, FULL_CAST, VIEW};
+use crate::request::{Request, BOUNDS, CHECK, COLUMN, COUNTED, FIRST_HIT, FULL_CAST};
+use crate::request::{READ, VIEW, WRITE};
 use crate::requests;
 use reference::generate::{cancelling_or_bored, part_of_form, totals, SplitMix64, FORMS};
 use reference::part::{FileBuilder, Part};
 use reference::view::in_millimetres;
 
 /// The calls, each as often as it is drawn.
-const DRAWN: [u8; 16] = [
+const DRAWN: [u8; 20] = [
     FULL_CAST,
     FULL_CAST,
     FULL_CAST,
@@ -27,21 +29,51 @@ const DRAWN: [u8; 16] = [
     CHECK,
     BOUNDS,
     BOUNDS,
+    WRITE,
+    WRITE,
+    WRITE,
+    READ,
 ];
 
-/// A request on a damaged file or on a whole one.
+/// A request on a damaged file or drawing, or on a whole one.
 pub fn drawn(random: &mut SplitMix64, on_damaged: bool) -> Request {
     let part = part(random);
-    let call = random.pick(&DRAWN);
+    match random.pick(&DRAWN) {
+        WRITE => write(random, &part, on_damaged),
+        call => of_file(random, &part, call, on_damaged),
+    }
+}
+
+/// A write of the part.
+fn write(random: &mut SplitMix64, part: &Part, on_damaged: bool) -> Request {
+    let whole = Drawing::from(part);
+    let drawing = match on_damaged {
+        true => drawings::damaged(random, &whole),
+        false => whole,
+    };
+    let (place, room) = placed(random, drawing.bytes());
+    let request = Request {
+        call: WRITE,
+        damaged: on_damaged,
+        drawing,
+        room,
+        place,
+        ..Request::default()
+    };
+    request.answered()
+}
+
+/// A call that is handed a file of the part.
+fn of_file(random: &mut SplitMix64, part: &Part, call: u8, on_damaged: bool) -> Request {
     let file = match on_damaged {
-        true => damaged(random, &part),
-        false => FileBuilder::from(&part).build(),
+        true => damaged(random, part),
+        false => FileBuilder::from(part).build(),
     };
     let mut request = Request {
         call,
         damaged: on_damaged,
         file,
-        ray: ray(random, &part, call),
+        ray: ray(random, part, call),
         room: room(random, call),
         ..Request::default()
     };
@@ -85,11 +117,12 @@ fn ray(random: &mut SplitMix64, part: &Part, call: u8) -> [u32; 6] {
     six(ray.a, ray.b, |c| c as u32)
 }
 
-/// Room for the marks or the column, too little at times; for two bounds always.
+/// Room for the marks or the column, too little at times; for two bounds and for
+/// the nodes' numbers always.
 fn room(random: &mut SplitMix64, call: u8) -> usize {
     match (call, need(call)) {
         (_, 0) => 0,
-        (BOUNDS, need) => need,
+        (BOUNDS | READ, need) => need,
         (_, need) => requests::room(random, need).1,
     }
 }

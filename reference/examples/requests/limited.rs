@@ -1,6 +1,6 @@
-//! What the fifteen questions limit, and the limits.
+//! What the seventeen questions limit, and the limits.
 
-use crate::request::{casting, BOUNDS, COLUMN, FULL_CAST, VIEW};
+use crate::request::{casting, BOUNDS, COLUMN, FULL_CAST, VIEW, WRITE};
 use std::ops::RangeInclusive;
 
 /// A number of a request that a question limits, or several of one kind; also
@@ -30,6 +30,17 @@ pub enum What {
     ColumnRoom,
     FloatSteps,
     Float,
+    GivenCount,
+    GivenRemainder,
+    GivenIso,
+    GivenKind,
+    GivenZero,
+    GivenRadius,
+    GivenCentre,
+    GivenWeight,
+    End,
+    RoomLeft,
+    Sum,
 }
 
 /// The question about it, and the limits.
@@ -47,7 +58,7 @@ pub struct Limited {
     pub asks: fn(u8) -> bool,
 }
 
-/// What is limited, of one member.
+/// What is limited, of one member, in calls that are handed a file.
 const fn one(
     what: What,
     question: u64,
@@ -62,8 +73,19 @@ const fn one(
         members: 1,
         range,
         limits,
-        asks: |_| true,
+        asks: |call| call != WRITE,
     }
+}
+
+/// What is limited, of one member, in a write.
+const fn given(
+    what: What,
+    question: u64,
+    name: &'static str,
+    range: RangeInclusive<i64>,
+    limits: &'static [[i64; 2]],
+) -> Limited {
+    one(what, question, name, range, limits).asked_by(|call| call == WRITE)
 }
 
 impl Limited {
@@ -83,6 +105,9 @@ const REACH: RangeInclusive<i64> = -2047..=2047;
 const OF_REACH: &[[i64; 2]] = &[[2047, 2048], [-2047, -2048]];
 const OF_ENDS: &[[i64; 2]] = &[[1, 0], [2, 0], [3, 0], [4, 0], [5, 0], [6, 0]];
 const OF_FLOATS: &[[i64; 2]] = &[[0, 1], [0, 2], [0, 3], [0, 4], [0, 5]];
+/// The last pairs are of numbers that fewer bits do not tell apart.
+const OF_GIVEN_REACH: &[[i64; 2]] = &[[2047, 2048], [-2047, -2048], [0, 65_536]];
+const OF_GIVEN_WEIGHT: &[[i64; 2]] = &[[4096, 4097], [-4096, -4097], [0, 65_536]];
 
 fn in_steps(call: u8) -> bool {
     casting(call).is_some_and(|which| which != VIEW)
@@ -90,7 +115,7 @@ fn in_steps(call: u8) -> bool {
 
 /// All that is limited, in the questions' order.
 #[rustfmt::skip]
-pub const ALL: [Limited; 23] = [
+pub const ALL: [Limited; 34] = [
     one(What::Length, 1, "the file's length", 24..=65_536, &[[24, 23], [65_536, 65_537]]),
     one(What::Mark, 2, "the mark's four bytes", 0..=0, &[[0, 1]]).members(4),
     one(What::Version, 3, "the version", 1..=1, &[[1, 0], [1, 2], [1, 257]]),
@@ -104,9 +129,12 @@ pub const ALL: [Limited; 23] = [
     one(What::Radius, 8, "a point's r", 1..=1024, &[[1, 0], [1024, 1025]]),
     one(What::Centre, 8, "its x, y and z", REACH, OF_REACH).members(3),
     one(What::Weight, 8, "its w", -4096..=4096, &[[4096, 4097], [-4096, -4097]]),
-    one(What::HeldByOperator, 9, "values held before an operator", 2..=MOST, &[[2, 1]]),
-    one(What::HeldByPoint, 10, "values held with a point", 1..=64, &[[64, 65]]),
-    one(What::HeldAtEnd, 11, "values held at the end", 1..=1, &[[1, 2]]),
+    one(What::HeldByOperator, 9, "values held before an operator", 2..=MOST, &[[2, 1]])
+        .asked_by(|_| true),
+    one(What::HeldByPoint, 10, "values held with a point", 1..=64, &[[64, 65]])
+        .asked_by(|_| true),
+    one(What::HeldAtEnd, 11, "values held at the end", 1..=1, &[[1, 2]])
+        .asked_by(|_| true),
     one(What::RayCoordinate, 12, "the ray's six coordinates", REACH, OF_REACH).members(6)
         .asked_by(in_steps),
     one(What::PlaceCoordinate, 12, "the place's three", REACH, OF_REACH).members(3)
@@ -121,12 +149,24 @@ pub const ALL: [Limited; 23] = [
         .asked_by(|call| casting(call) == Some(VIEW)),
     one(What::Float, 15, "the six floats", 0..=0, OF_FLOATS).members(6)
         .asked_by(|call| casting(call) == Some(VIEW)),
+    given(What::GivenCount, 16, "the number count", 6..=3066, &[[6, 0], [3066, 3072]]),
+    given(What::GivenRemainder, 16, "its remainder by six", 0..=0, &[[0, 1], [0, 5]]),
+    given(What::GivenIso, 5, "a write's iso", 1..=4096, &[[1, 0], [4096, 4097], [1, 65_537]]),
+    given(What::GivenKind, 6, "a node's kind", 1..=5, &[[1, 0], [5, 6], [1, 257]]),
+    given(What::GivenZero, 7, "an operator's other numbers", 0..=0, &[[0, 1], [0, -1], [0, 65_536]])
+        .members(5),
+    given(What::GivenRadius, 8, "a point's r", 1..=1024, &[[1, 0], [1024, 1025], [1, 65_537]]),
+    given(What::GivenCentre, 8, "its x, y and z", REACH, OF_GIVEN_REACH).members(3),
+    given(What::GivenWeight, 8, "its w", -4096..=4096, OF_GIVEN_WEIGHT),
+    given(What::End, 17, "the place after the trailer", 24..=65_536, &[[65_536, 65_537]]),
+    given(What::RoomLeft, 17, "the room less that place", 0..=MOST, &[[0, -1]]),
+    given(What::Sum, 17, "that place in 64 bits", 0..=0, &[[0, 1]]),
 ];
 
 impl What {
     /// Its row of `ALL`.
     pub fn limited(self) -> &'static Limited {
-        static ROWS: [Limited; 23] = ALL;
+        static ROWS: [Limited; 34] = ALL;
         let row = &ROWS[self as usize];
         assert_eq!(row.what, self);
         row
@@ -147,6 +187,7 @@ impl What {
                 "-infinity",
                 "NaN",
             ],
+            What::Sum => &["fits", "passes 2^64 - 1"],
             _ => return grouped(value),
         };
         names[value as usize].to_string()

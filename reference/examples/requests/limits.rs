@@ -2,7 +2,8 @@
 //! each pair the first is accepted, the second refused.
 
 use crate::request::{casting, is_counted, need, six};
-use crate::request::{Request, BOUNDS, CALLS, COLUMN, FULL_CAST, VIEW};
+use crate::request::{Request, BOUNDS, CALLS, COLUMN, FULL_CAST, VIEW, WRITE};
+use crate::write_limits::writes;
 use reference::generate::{totals, SplitMix64};
 use reference::part::{operator_record, point_record, FileBuilder};
 use reference::part::{FILE_MARK, OPERATORS, RECORD};
@@ -37,6 +38,9 @@ fn counted(random: &mut SplitMix64, mut request: Request) -> Request {
 
 /// A call's requests at the limits that it asks about.
 fn of_call(call: u8) -> Vec<Request> {
+    if call == WRITE {
+        return writes();
+    }
     let whole = Request {
         call,
         file: whole().build(),

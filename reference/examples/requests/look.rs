@@ -2,8 +2,9 @@
 //! and which are wrong.
 
 use crate::limited::What;
-use crate::request::{casting, Request, BOUNDS, COLUMN, FULL_CAST, VIEW};
+use crate::request::{casting, Request, BOUNDS, COLUMN, FULL_CAST, VIEW, WRITE};
 use reference::part::{FILE_MARK, RECORD};
+use reference::write::NODE_NUMBERS;
 
 /// A number, which of its kind, and its value.
 pub type Seen = (What, usize, i64);
@@ -17,9 +18,14 @@ pub struct Look {
 }
 
 impl Look {
-    /// Looks at the file, and at the ray and the room as the call is asked.
+    /// Looks at what a write is given, or at the file, and at the ray and the
+    /// room as the call is asked.
     pub fn at(request: &Request) -> Look {
         let mut look = Look::default();
+        if request.call == WRITE {
+            look.write(request);
+            return look;
+        }
         look.file(&request.file);
         match (casting(request.call), request.call) {
             (Some(VIEW), _) => look.floats(request.ray.map(f32::from_bits)),
@@ -94,6 +100,58 @@ impl Look {
         self.see(What::Radius, 0, i64::from(two(record, 2)));
         (0..3).for_each(|i| self.see(What::Centre, i, signed(4 + 2 * i)));
         self.see(What::Weight, 0, signed(10));
+    }
+
+    /// The count, the iso-value, every node, faulty or not, and the place.
+    fn write(&mut self, request: &Request) {
+        let numbers = &request.drawing.numbers;
+        self.see(What::GivenCount, 0, numbers.len() as i64);
+        self.see(
+            What::GivenRemainder,
+            0,
+            (numbers.len() % NODE_NUMBERS) as i64,
+        );
+        if !self.wrong.is_empty() {
+            return;
+        }
+        self.see(What::GivenIso, 0, i64::from(request.drawing.iso));
+        self.nodes(numbers);
+        let bytes = RECORD * (numbers.len() / NODE_NUMBERS + 1);
+        let end = request.place as i128 + bytes as i128;
+        let passes = end >= 1 << 64;
+        self.see(What::Sum, 0, i64::from(passes));
+        if !passes {
+            let end = i64::try_from(end).unwrap_or(i64::MAX);
+            self.see(What::End, 0, end);
+            self.see(What::RoomLeft, 0, request.room as i64 - end);
+        }
+    }
+
+    /// Every node. Of other kinds than 1 to 5, those whose lower 8 bits are 0 or
+    /// 1 count as points and the rest as operators.
+    fn nodes(&mut self, numbers: &[i32]) {
+        let mut held = 0;
+        for six in numbers.chunks(NODE_NUMBERS) {
+            let [kind, others @ ..] = [0, 1, 2, 3, 4, 5].map(|i| i64::from(six[i]));
+            self.see(What::GivenKind, 0, kind);
+            if kind & 0xff < 2 {
+                self.given_point(others);
+                held += 1;
+                self.see(What::HeldByPoint, 0, held);
+            } else {
+                (0..5).for_each(|i| self.see(What::GivenZero, i, others[i]));
+                self.see(What::HeldByOperator, 0, held);
+                held = (held - 1).max(0);
+            }
+        }
+        self.see(What::HeldAtEnd, 0, held);
+    }
+
+    fn given_point(&mut self, [r, x, y, z, w]: [i64; 5]) {
+        self.see(What::GivenRadius, 0, r);
+        let centre = [x, y, z].into_iter().enumerate();
+        centre.for_each(|(i, c)| self.see(What::GivenCentre, i, c));
+        self.see(What::GivenWeight, 0, w);
     }
 
     fn place(&mut self, at: &[u32]) {

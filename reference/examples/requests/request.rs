@@ -1,11 +1,15 @@
 //! One request, the reference's answer to it, and its form in the stream.
 
+use crate::drawings::Drawing;
 use crate::expected::{answered, bounds_number, check_number, viewed};
+use crate::expected::{read_number, write_number};
 use reference::cast;
 use reference::field::Ray;
 use reference::totals::Totals;
 use reference::view::{viewer_first_hit, ViewRay};
+use reference::write::{MOST_NUMBERS, NODE_NUMBERS};
 use std::io::{self, Write};
+use std::ops::Range;
 
 /// The calls; a counted one is a casting call's number and `COUNTED`.
 pub const FULL_CAST: u8 = 0;
@@ -15,11 +19,15 @@ pub const VIEW: u8 = 3;
 pub const COUNTED: u8 = 4;
 pub const CHECK: u8 = 8;
 pub const BOUNDS: u8 = 9;
+pub const WRITE: u8 = 10;
+pub const READ: u8 = 11;
 /// How many calls there are.
-pub const CALLS: usize = 10;
+pub const CALLS: usize = 12;
 
 /// The least number that is no refusal's.
 const ACCEPTED: u64 = 65_536;
+/// Bytes of a number.
+const NUMBER_BYTES: usize = 4;
 
 /// A request, and its answer once `answered` has filled it in.
 #[derive(Clone, Default)]
@@ -27,17 +35,21 @@ pub struct Request {
     pub call: u8,
     pub damaged: bool,
     pub file: Vec<u8>,
+    /// What a write is given, in place of a file.
+    pub drawing: Drawing,
     /// The bits of A's coordinates and B's, or of a place's and three zeros.
     pub ray: [u32; 6],
     pub budget: u32,
     pub room: usize,
+    /// Where in the buffer a write begins.
+    pub place: usize,
     pub totals: Totals,
     pub number: u64,
     pub after: Totals,
     pub written: Vec<u8>,
 }
 
-/// The casting call that a call is or counts; none for the other two.
+/// The casting call that a call is or counts; none for the others.
 pub fn casting(call: u8) -> Option<u8> {
     (call < CHECK).then_some(call % COUNTED)
 }
@@ -47,12 +59,13 @@ pub fn is_counted(call: u8) -> bool {
     (COUNTED..CHECK).contains(&call)
 }
 
-/// The bytes that a call writes if it is not refused.
+/// The most bytes that a call writes, unless it is a write.
 pub fn need(call: u8) -> usize {
     match (casting(call), call) {
         (Some(FULL_CAST), _) => cast::TICKS as usize,
         (Some(COLUMN), _) => cast::COLUMN_BYTES,
         (_, BOUNDS) => 16,
+        (_, READ) => NUMBER_BYTES * MOST_NUMBERS,
         _ => 0,
     }
 }
@@ -104,7 +117,9 @@ impl Request {
             (Some(VIEW), _) => viewed(file, self.millimetres(), self.budget),
             (Some(which), _) => answered(file, u32::from(which), &ray, self.budget, &mut buffer),
             (None, CHECK) => (check_number(file), None),
-            (None, _) => (bounds_number(file, ray.a, &mut buffer), None),
+            (None, BOUNDS) => (bounds_number(file, ray.a, &mut buffer), None),
+            (None, WRITE) => (self.write_to(&mut buffer), None),
+            (None, _) => (read_to(file, &mut buffer), None),
         };
         self.number = number;
         self.after = match is_counted(self.call) {
@@ -112,25 +127,70 @@ impl Request {
             false => self.totals,
         };
         if self.is_accepted() {
-            buffer.truncate(need(self.call));
-            self.written = buffer;
+            self.written = buffer[self.changed()].to_vec();
         }
         self
     }
 
+    /// The number of the write.
+    fn write_to(&self, buffer: &mut [u8]) -> u64 {
+        let Drawing { numbers, iso } = &self.drawing;
+        write_number(numbers, *iso, buffer, self.place).into()
+    }
+
+    /// Which bytes of the buffer an accepted call writes.
+    fn changed(&self) -> Range<usize> {
+        match self.call {
+            WRITE => self.place..(self.number - ACCEPTED) as usize,
+            READ => 0..NUMBER_BYTES * NODE_NUMBERS * (self.number >> 16 & 0xffff) as usize,
+            call => 0..need(call),
+        }
+    }
+
+    /// The bytes that the call is handed: the file, or a write's numbers.
+    fn handed(&self) -> Vec<u8> {
+        match self.call {
+            WRITE => bytes_of(&self.drawing.numbers),
+            _ => self.file.clone(),
+        }
+    }
+
     /// Writes the request as the stream's form says.
     pub fn write(&self, to: &mut impl Write) -> io::Result<()> {
+        let handed = self.handed();
+        let limit = match self.call {
+            WRITE => self.drawing.iso,
+            _ => self.budget,
+        };
         to.write_all(&[self.call, u8::from(self.damaged), 0, 0])?;
-        write_numbers(to, &[self.file.len() as u32])?;
+        write_numbers(to, &[handed.len() as u32])?;
         write_numbers(to, &self.ray)?;
-        write_numbers(to, &[self.budget, self.room as u32])?;
+        write_numbers(to, &[limit, self.room as u32])?;
         write_numbers(to, &three(&self.totals))?;
         to.write_all(&self.number.to_le_bytes())?;
         write_numbers(to, &three(&self.after))?;
         write_numbers(to, &[self.written.len() as u32])?;
-        to.write_all(&self.file)?;
+        to.write_all(&(self.place as u64).to_le_bytes())?;
+        to.write_all(&handed)?;
         to.write_all(&self.written)
     }
+}
+
+/// The number of the read, and the nodes' numbers as bytes, written unless
+/// refused.
+fn read_to(file: &[u8], buffer: &mut [u8]) -> u64 {
+    let mut numbers = [0; MOST_NUMBERS];
+    let number = read_number(file, &mut numbers);
+    buffer.copy_from_slice(&bytes_of(&numbers));
+    number
+}
+
+/// The bytes of signed numbers.
+fn bytes_of(numbers: &[i32]) -> Vec<u8> {
+    numbers
+        .iter()
+        .flat_map(|number| number.to_le_bytes())
+        .collect()
 }
 
 fn write_numbers(to: &mut impl Write, numbers: &[u32]) -> io::Result<()> {

@@ -9,6 +9,7 @@ compile_error!(
 
 use reference::field::Ray;
 use reference::view::ViewRay;
+use reference::write::MOST_NUMBERS;
 use std::ptr::{null, null_mut};
 
 #[link(name = "fenalukki", kind = "static")]
@@ -129,14 +130,25 @@ extern "C" {
         budget: u32,
         totals: *mut u32,
     ) -> u64;
+
+    fn fenalukki_write(
+        numbers: *const i32,
+        numbers_len: usize,
+        iso: u32,
+        buffer: *mut u8,
+        buffer_len: usize,
+        place: usize,
+    ) -> u32;
+
+    fn fenalukki_read(file: *const u8, file_len: usize, numbers: *mut i32) -> u64;
 }
 
-/// The file's pointer, null where there are no bytes.
-fn start(file: &[u8]) -> *const u8 {
-    if file.is_empty() {
+/// The pointer of a file or of numbers, null where there are none.
+fn start<T>(items: &[T]) -> *const T {
+    if items.is_empty() {
         null()
     } else {
-        file.as_ptr()
+        items.as_ptr()
     }
 }
 
@@ -239,4 +251,19 @@ pub fn viewer_first_hit_counted(
     let (at, len, sums) = (start(file), file.len(), totals.as_mut_ptr());
     // SAFETY: both pointers are valid for their lengths and do not overlap.
     unsafe { fenalukki_viewer_first_hit_counted(at, len, ax, ay, az, bx, by, bz, budget, sums) }
+}
+
+/// The number of a write.
+pub fn write(numbers: &[i32], iso: u32, buffer: &mut [u8], place: usize) -> u32 {
+    let (at, len) = (start(numbers), numbers.len());
+    let (to, room) = (start_mut(buffer), buffer.len());
+    // SAFETY: both pointers are valid for their lengths and do not overlap.
+    unsafe { fenalukki_write(at, len, iso, to, room, place) }
+}
+
+/// The number of a read.
+pub fn read(file: &[u8], numbers: &mut [i32; MOST_NUMBERS]) -> u64 {
+    let to = numbers.as_mut_ptr();
+    // SAFETY: both pointers are valid for their lengths and do not overlap.
+    unsafe { fenalukki_read(start(file), file.len(), to) }
 }

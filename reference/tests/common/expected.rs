@@ -5,6 +5,7 @@ use reference::cast;
 use reference::field::Ray;
 use reference::part;
 use reference::view::{viewer_first_hit, ViewRay, ViewerHit};
+use reference::write;
 
 /// The reference's number and probes of a full cast if `which` is 0, of a first
 /// hit if it is 1, else of a column.
@@ -85,4 +86,22 @@ pub fn bounds_number(file: &[u8], at: [i32; 3], bytes: &mut [u8]) -> u64 {
         }
         Err(number) => u64::from(number),
     }
+}
+
+/// The number of a write.
+#[allow(dead_code)]
+pub fn write_number(numbers: &[i32], iso: u32, buffer: &mut [u8], place: usize) -> u32 {
+    match write::write(numbers, iso, buffer, place) {
+        Ok(end) => 65_536 + end as u32,
+        Err(number) => number,
+    }
+}
+
+/// The number of a read, and the nodes' numbers, written unless refused.
+#[allow(dead_code)]
+pub fn read_number(file: &[u8], numbers: &mut [i32]) -> u64 {
+    if let Ok((_, right)) = write::read(file) {
+        numbers[..right.len()].copy_from_slice(&right);
+    }
+    check_number(file)
 }

@@ -1,7 +1,7 @@
 //! A lent buffer between guard bytes.
 
 /// Guard bytes before the buffer, and as many after it.
-const GUARD: usize = 64;
+pub const GUARD: usize = 64;
 
 /// What `call` answers, handed a buffer of `room` bytes, and the bytes it
 /// leaves, those of the guards included. No byte is a mark beforehand.
