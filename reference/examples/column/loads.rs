@@ -9,6 +9,8 @@ use std::path::Path;
 
 /// A column of a file's part on a ray: 65,536 + probes, or samples.
 pub type ColumnCall = fn(&[u8], &Ray, &mut [u8]) -> u32;
+/// A call on a file as a whole.
+pub type FileCall = fn(&[u8]);
 
 /// A part and the rays of its columns.
 pub struct Load {
@@ -39,6 +41,16 @@ impl Load {
     /// All columns once; answers the probes, or samples.
     pub fn columns(&self, call: ColumnCall) -> u32 {
         self.rays.iter().map(|ray| self.column(ray, call).0).sum()
+    }
+
+    /// The records of the file.
+    pub fn nodes(&self) -> usize {
+        read(&self.file).expect("a part").nodes.len()
+    }
+
+    /// A call on the file, as often as there are rays.
+    pub fn calls(&self, call: FileCall) {
+        self.rays.iter().for_each(|_| call(black_box(&self.file)));
     }
 
     /// How many columns have a bit set.
@@ -91,6 +103,7 @@ pub fn parts() -> Vec<Load> {
         "core.part",
         "core-cut.part",
         "core-sum.part",
+        "bracket.part",
         "k.part",
     ];
     names.map(load).into()

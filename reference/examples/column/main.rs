@@ -1,8 +1,10 @@
-//! What a column costs: the archive's, plain Rust's and that of samples. Prints
-//! tables in Markdown; docs/BENCHMARKS.md explains them.
+//! What a column costs: the archive's, plain Rust's and that of samples; and
+//! what the archive takes to check, read and write a file. Prints tables in
+//! Markdown; docs/BENCHMARKS.md explains them.
 
 #[path = "../../tests/common/entries.rs"]
 mod entries;
+mod files;
 mod loads;
 mod measure;
 mod plain;
@@ -61,8 +63,27 @@ fn print_parts() {
         "Time / Rust",
         "Time / samples",
     ];
-    print_head("Five parts", &columns);
+    print_head("Six parts", &columns);
     loads::parts().iter().for_each(print_part);
+}
+
+fn print_files() {
+    let columns = [
+        "Part",
+        "Nodes",
+        "Check",
+        "Read",
+        "Write",
+        "Write, for a node",
+    ];
+    print_head("Reading and writing", &columns);
+    for load in loads::parts() {
+        let counted = files::CALLS.map(|(name, _)| instructions(&load, name));
+        print!("| {} | {} |", load.name, load.nodes());
+        counted.iter().for_each(|&number| print_number(number, 0));
+        print_number(counted[2].map(|n| n / load.nodes() as f64), 0);
+        println!();
+    }
 }
 
 fn print_growing(load: &Load) {
@@ -100,11 +121,20 @@ fn print_struts() {
     }
 }
 
+/// Makes the calls of a load by one name.
+fn make(load: &Load, name: &str) {
+    if let Some((_, call)) = files::CALLS.iter().find(|(known, _)| *known == name) {
+        load.calls(*call);
+        return;
+    }
+    let call = CALLS.iter().find(|(known, _)| *known == name);
+    load.columns(call.expect("the name of a call").1);
+}
+
 fn main() {
     let words: Vec<String> = env::args().skip(1).collect();
     if let [load, name] = &words[..] {
-        let call = CALLS.iter().find(|(known, _)| known == name);
-        loads::named(load).columns(call.expect("the name of a call").1);
+        make(&loads::named(load), name);
         return;
     }
     if !measure::counts() {
@@ -115,4 +145,5 @@ fn main() {
     print_growth("Growth with probes", &loads::cancelled());
     print_growth("Each operator", &loads::operators());
     print_struts();
+    print_files();
 }
