@@ -1,91 +1,51 @@
-/* A tour of fenalukki.h: makes a part of three points in memory and hands it to
- * each of the ten entries, has its points joined by other operators, and each
- * refusal number answered once. What it prints is in tour.out. Lengths are in
- * steps of 1/64 mm but for the viewer's, which are in millimetres. */
+/* A tour of fenalukki.h: writes a part of three points, makes each of the twelve
+ * calls with it, has its points joined by other operators, and each refusal
+ * number answered once. What it prints is in tour.out. Lengths are in steps of
+ * 1/64 mm but for the viewer's, which are in millimetres. */
 #include "fenalukki.h"
 
 #include <stdio.h>
 #include <string.h>
 
-/* 1. The part: docs/FORMAT.md says how its bytes are laid out. */
+/* 1. The part, from the numbers of its nodes: docs/FORMAT.md says how a part is
+ * built, and what its bytes are. */
 
 struct part {
-    uint8_t bytes[FENALUKKI_RECORDS_MAX * FENALUKKI_RECORD_BYTES + FENALUKKI_TRAILER_BYTES];
+    uint8_t bytes[FENALUKKI_WRITE_BYTES_MAX];
     size_t length;
 };
 
-static void set16(struct part *part, size_t offset, int number)
+enum { ISO = 768, NODES = 5, NUMBERS = NODES * FENALUKKI_NUMBERS_PER_NODE };
+
+/* Kind, r, x, y, z and w of each: two points that are summed to a bar, and a
+ * ball, joined with it by an operator. */
+static const int32_t bar_and_ball[NUMBERS] = {
+    FENALUKKI_KIND_POINT, 640, -320, -256, 0, 1024,
+    FENALUKKI_KIND_POINT, 640, 320, -256, 0, 1024,
+    FENALUKKI_KIND_SUM, 0, 0, 0, 0, 0,
+    FENALUKKI_KIND_POINT, 512, 0, 400, 64, 3072,
+    FENALUKKI_KIND_GREATER, 0, 0, 0, 0, 0
+};
+
+/* A part whose numbers are refused has the length 0. */
+static void make_part(struct part *part, const int32_t *numbers)
 {
-    part->bytes[offset] = (uint8_t)(number & 0xff);
-    part->bytes[offset + 1] = (uint8_t)(number >> 8 & 0xff);
+    uint32_t number = fenalukki_write(numbers, NUMBERS, ISO, part->bytes, sizeof part->bytes, 0);
+
+    part->length = fenalukki_end(number);
 }
 
-static int get16(const uint8_t *bytes)
+/* Of any call: says why it was refused and returns 1, else 0. What was lent to a
+ * refused call is as it was, so it is not read. */
+static int is_refused(uint64_t number)
 {
-    int number = bytes[0] | bytes[1] << 8;
-
-    return number < 32768 ? number : number - 65536;
+    if (!fenalukki_refusal(number))
+        return 0;
+    printf("refused %d, %s\n", fenalukki_refusal(number), fenalukki_refusal_text(number));
+    return 1;
 }
 
-static void put16(struct part *part, int number)
-{
-    set16(part, part->length, number);
-    part->length += 2;
-}
-
-/* Adds a held value. */
-static void put_point(struct part *part, int r, int x, int y, int z, int w)
-{
-    put16(part, FENALUKKI_KIND_POINT);
-    put16(part, r);
-    put16(part, x);
-    put16(part, y);
-    put16(part, z);
-    put16(part, w);
-}
-
-/* Replaces the last two held values by one. */
-static void put_operator(struct part *part, int kind)
-{
-    int i;
-
-    put16(part, kind);
-    for (i = 0; i < 5; i++)
-        put16(part, 0);
-}
-
-static void put_trailer(struct part *part, int iso)
-{
-    int distance = (int)part->length + FENALUKKI_TRAILER_BYTES;
-
-    put16(part, iso);
-    put16(part, FENALUKKI_FILE_VERSION);
-    put16(part, distance);
-    put16(part, 0);
-    memcpy(part->bytes + part->length, "\x54\x52\x45\x45", 4);
-    part->length += 4;
-}
-
-enum { ISO = 768 };
-
-/* A bar, which is the sum of two points, and a ball, joined by an operator. */
-static void join_bar_and_ball(struct part *part, int ball_y, int kind)
-{
-    part->length = 0;
-    put_point(part, 640, -320, -256, 0, 1024);
-    put_point(part, 640, 320, -256, 0, 1024);
-    put_operator(part, FENALUKKI_KIND_SUM);
-    put_point(part, 512, 0, ball_y, 64, 3072);
-    put_operator(part, kind);
-    put_trailer(part, ISO);
-}
-
-static void make_part(struct part *part)
-{
-    join_bar_and_ball(part, 400, FENALUKKI_KIND_GREATER);
-}
-
-static const char *kind_word(int kind)
+static const char *kind_word(int32_t kind)
 {
     static const char *const words[] = {"", "point", "sum", "greater", "lesser", "cut"};
 
@@ -101,67 +61,106 @@ static void print_bytes(const struct part *part, size_t offset)
         printf(" %02x", part->bytes[offset + (size_t)i]);
 }
 
-static void print_record(const struct part *part, size_t offset)
+static void print_node(const int32_t *node)
 {
-    const uint8_t *record = part->bytes + offset;
-
-    print_bytes(part, offset);
-    printf("  %s", kind_word(record[0]));
-    if (record[0] == FENALUKKI_KIND_POINT)
-        printf(", r %d, x %d, y %d, z %d, w %d", get16(record + 2), get16(record + 4),
-               get16(record + 6), get16(record + 8), get16(record + 10));
+    printf("  %s", kind_word(node[FENALUKKI_NODE_KIND]));
+    if (node[FENALUKKI_NODE_KIND] == FENALUKKI_KIND_POINT)
+        printf(", r %ld, x %ld, y %ld, z %ld, w %ld", (long)node[FENALUKKI_NODE_RADIUS],
+               (long)node[FENALUKKI_NODE_X], (long)node[FENALUKKI_NODE_Y],
+               (long)node[FENALUKKI_NODE_Z], (long)node[FENALUKKI_NODE_WEIGHT]);
     printf("\n");
 }
 
+/* Each record's bytes, with the node that is read from them. */
 static void show_part(const struct part *part)
 {
-    size_t end = part->length - FENALUKKI_TRAILER_BYTES, offset;
-    const uint8_t *trailer = part->bytes + end;
+    static int32_t numbers[FENALUKKI_NUMBERS_MAX];
+    uint64_t number = fenalukki_read(part->bytes, part->length, numbers);
+    size_t trailer = (size_t)fenalukki_nodes(number) * FENALUKKI_RECORD_BYTES, i;
 
     printf("1. A part of three points, %lu bytes\n", (unsigned long)part->length);
-    for (offset = 0; offset < end; offset += FENALUKKI_RECORD_BYTES)
-        print_record(part, offset);
-    print_bytes(part, end);
-    printf("  trailer: iso %d, version %d, distance %d\n", get16(trailer), get16(trailer + 2),
-           get16(trailer + 4));
+    if (is_refused(number))
+        return;
+    for (i = 0; i * FENALUKKI_RECORD_BYTES < trailer; i++) {
+        print_bytes(part, i * FENALUKKI_RECORD_BYTES);
+        print_node(numbers + i * FENALUKKI_NUMBERS_PER_NODE);
+    }
+    print_bytes(part, trailer);
+    printf("  trailer: iso %d, version %d, distance %lu\n", fenalukki_iso(number),
+           FENALUKKI_FILE_VERSION, (unsigned long)trailer + FENALUKKI_TRAILER_BYTES);
 }
 
-/* Of any call: says why it was refused and returns 1, else 0. What was lent to a
- * refused call is as it was, so it is not read. */
-static int is_refused(uint64_t number)
+/* 2. The check of a file. Returns 1 if it passes. */
+
+static int show_check(const struct part *part)
 {
-    if (!fenalukki_refusal(number))
-        return 0;
-    printf("refused %d, %s\n", fenalukki_refusal(number), fenalukki_refusal_text(number));
-    return 1;
-}
+    uint64_t number = fenalukki_check(part->bytes, part->length);
 
-/* 2. The check of a file, without and with bytes before the first record. */
-
-/* Returns 1 if the file passes. */
-static int print_check(const char *name, const uint8_t *file, size_t length)
-{
-    uint64_t number = fenalukki_check(file, length);
-
-    printf("%s: ", name);
+    printf("\n2. Check: ");
     if (is_refused(number))
         return 0;
     printf("%d nodes, iso %d\n", fenalukki_nodes(number), fenalukki_iso(number));
     return 1;
 }
 
-static int show_check(const struct part *part)
-{
-    uint8_t longer[sizeof part->bytes + 4];
+/* 3. Writes of what is read, at several places of a larger buffer. Bytes before
+ * the place are no part of the tree, and none but the file's own is written. */
 
-    printf("\n2. Check\n");
-    memset(longer, 0xee, 4);
-    memcpy(longer + 4, part->bytes, part->length);
-    return print_check("the part", part->bytes, part->length)
-           && print_check("with four bytes in front", longer, part->length + 4);
+enum { ROOM = 80, FILLING = 0xee };
+
+/* How many bytes of the buffer are still its filling. */
+static int count_filling(const uint8_t *buffer)
+{
+    int count = 0, i;
+
+    for (i = 0; i < ROOM; i++)
+        count += buffer[i] == FILLING;
+    return count;
 }
 
-/* 3. A plane of 64 columns, cast downwards, 32 steps from one to the next. A
+/* From the buffer's start: the file's check, and whether the numbers come back. */
+static void print_written(const uint8_t *buffer, size_t end, const int32_t *numbers)
+{
+    static int32_t again[FENALUKKI_NUMBERS_MAX];
+    uint64_t number = fenalukki_read(buffer, end, again);
+
+    if (is_refused(number))
+        return;
+    printf("ends at %lu, %d nodes, iso %d, numbers %s", (unsigned long)end,
+           fenalukki_nodes(number), fenalukki_iso(number),
+           memcmp(numbers, again, NUMBERS * sizeof *numbers) == 0 ? "as given\n" : "changed\n");
+}
+
+static void print_write(const struct part *part, const int32_t *numbers, size_t place)
+{
+    uint8_t buffer[ROOM];
+    uint32_t number;
+
+    memset(buffer, FILLING, ROOM);
+    number = fenalukki_write(numbers, NUMBERS, ISO, buffer, ROOM, place);
+    printf("place %lu: ", (unsigned long)place);
+    if (!is_refused(number))
+        print_written(buffer, fenalukki_end(number), numbers);
+    printf("  %d bytes not written", count_filling(buffer));
+    if (!fenalukki_refusal(number) && memcmp(buffer + place, part->bytes, part->length) == 0)
+        printf(", the others as in 1");
+    printf("\n");
+}
+
+static void show_writes(const struct part *part)
+{
+    static int32_t numbers[FENALUKKI_NUMBERS_MAX];
+
+    printf("\n3. Writes of what is read, into %d bytes\n", ROOM);
+    if (is_refused(fenalukki_read(part->bytes, part->length, numbers)))
+        return;
+    print_write(part, numbers, 0);
+    print_write(part, numbers, 4);
+    print_write(part, numbers, 8);
+    print_write(part, numbers, 9);
+}
+
+/* 4. A plane of 64 columns, cast downwards, 32 steps from one to the next. A
  * sign stands for 32 ticks of a column, which are 64 steps. */
 
 enum { COLUMNS = 64, LINES = 32, TICKS_A_SIGN = FENALUKKI_TICKS / LINES };
@@ -219,11 +218,11 @@ static void print_plane(const struct part *part, int first, int after)
 
 static void show_plane(const struct part *part)
 {
-    printf("\n3. The plane z 0: ");
+    printf("\n4. The plane z 0: ");
     print_plane(part, 0, LINES);
 }
 
-/* 4. Full casts: complete, and spent. */
+/* 5. Full casts: complete, and spent. */
 
 static const char *mark_word(int mark)
 {
@@ -264,13 +263,13 @@ static void print_cast(const struct part *part, uint32_t budget)
 
 static void show_casts(const struct part *part)
 {
-    printf("\n4. Full casts from (0, 1024, 0) to (0, -1024, 0)\n");
+    printf("\n5. Full casts from (0, 1024, 0) to (0, -1024, 0)\n");
     print_cast(part, FENALUKKI_ENOUGH);
     print_cast(part, 30);
     print_cast(part, 0);
 }
 
-/* 5. First hits by whole steps. */
+/* 6. First hits by whole steps. */
 
 static void print_hit(uint64_t number)
 {
@@ -300,14 +299,14 @@ static void print_hit_on(const struct part *part, int32_t ax, int32_t y, uint32_
 
 static void show_hits(const struct part *part)
 {
-    printf("\n5. First hits\n");
+    printf("\n6. First hits\n");
     print_hit_on(part, -1024, -256, FENALUKKI_ENOUGH);
     print_hit_on(part, 0, -256, FENALUKKI_ENOUGH);
     print_hit_on(part, -1024, 900, FENALUKKI_ENOUGH);
     print_hit_on(part, -1024, -256, 5);
 }
 
-/* 6. The viewer's first hits, by floats in millimetres: the first ray of 5, then
+/* 7. The viewer's first hits, by floats in millimetres: the first ray of 6, then
  * a camera's ray as it is, then rounded to steps. */
 
 /* Of a hit: the point where its tick begins, in millimetres. It is exact, for it
@@ -351,7 +350,7 @@ static void show_views(const struct part *part)
     const float raw_b[3] = {(float)camera_b[0], (float)camera_b[1], (float)camera_b[2]};
     float a[3], b[3];
 
-    printf("\n6. The viewer's first hits\n");
+    printf("\n7. The viewer's first hits\n");
     print_view(part, whole_a, whole_b);
     print_view(part, raw_a, raw_b);
     round_end(camera_a, a);
@@ -359,7 +358,7 @@ static void show_views(const struct part *part)
     print_view(part, a, b);
 }
 
-/* 7. Bounds at a place, in units of 2^-32. */
+/* 8. Bounds at a place, in units of 2^-32. */
 
 static void print_bounds(const struct part *part, int32_t x, int32_t y, int32_t z)
 {
@@ -379,14 +378,14 @@ static void print_bounds(const struct part *part, int32_t x, int32_t y, int32_t 
 
 static void show_bounds(const struct part *part)
 {
-    printf("\n7. Bounds at a place, in units of 2^-32; solid from the field %d on\n", ISO);
+    printf("\n8. Bounds at a place, in units of 2^-32; solid from the field %d on\n", ISO);
     print_bounds(part, 0, -256, 0);
     print_bounds(part, 0, 400, 0);
     print_bounds(part, 0, 20, 1);
     print_bounds(part, 1000, 1000, 1000);
 }
 
-/* 8. Cut and lesser, with the ball moved into the bar. The bar is the earlier
+/* 9. Cut and lesser, with the ball moved into the bar. The bar is the earlier
  * operand, so the cut is the bar without the ball. */
 
 enum { FIRST_LINE = 15, AFTER_LINE = 25 }; /* y from 64 down to -576 */
@@ -394,8 +393,12 @@ enum { FIRST_LINE = 15, AFTER_LINE = 25 }; /* y from 64 down to -576 */
 static void print_overlap(int kind)
 {
     static struct part part;
+    int32_t numbers[NUMBERS];
 
-    join_bar_and_ball(&part, 0, kind);
+    memcpy(numbers, bar_and_ball, sizeof numbers);
+    numbers[3 * FENALUKKI_NUMBERS_PER_NODE + FENALUKKI_NODE_Y] = 0;
+    numbers[4 * FENALUKKI_NUMBERS_PER_NODE + FENALUKKI_NODE_KIND] = kind;
+    make_part(&part, numbers);
     printf("%s, the plane z 0: ", kind_word(kind));
     print_plane(&part, FIRST_LINE, AFTER_LINE);
     print_bounds(&part, 0, -256, 0);
@@ -404,12 +407,12 @@ static void print_overlap(int kind)
 
 static void show_overlaps(void)
 {
-    printf("\n8. Cut and lesser of the bar and the ball, moved to y 0\n");
+    printf("\n9. Cut and lesser of the bar and the ball, moved to y 0\n");
     print_overlap(FENALUKKI_KIND_CUT);
     print_overlap(FENALUKKI_KIND_LESSER);
 }
 
-/* 9. Counted calls: three totals that each call adds to. */
+/* 10. Counted calls: three totals that each call adds to. */
 
 static void print_totals(const char *after, const uint32_t totals[FENALUKKI_TOTALS])
 {
@@ -426,7 +429,7 @@ static void show_totals(const struct part *part)
     uint8_t marks[FENALUKKI_MARKS_BYTES], bits[FENALUKKI_COLUMN_BYTES];
     uint32_t totals[FENALUKKI_TOTALS] = {0, 0, 0};
 
-    printf("\n9. Running totals\n");
+    printf("\n10. Running totals\n");
     fenalukki_full_cast_counted(file, length, 0, 1024, 0, 0, -1024, 0, 30, marks, sizeof marks,
                                 totals);
     print_totals("a full cast with budget 30", totals);
@@ -445,73 +448,93 @@ static void show_totals(const struct part *part)
     print_totals("a column, with probes near the ceiling", totals);
 }
 
-/* 10. Every refusal: 1 to 11 by a part that has one fault. */
+/* 11. Every refusal. */
 
-static void put_points(struct part *part, int count)
+/* 1 to 4 by a file that has one fault. */
+static uint64_t refused_file(struct part part, int number)
 {
-    part->length = 0;
-    while (count-- > 0)
-        put_point(part, 512, 0, 0, 0, 4);
-    put_trailer(part, 1);
-}
+    uint8_t *trailer = part.bytes + part.length - FENALUKKI_TRAILER_BYTES;
 
-static void put_lone_operator(struct part *part)
-{
-    part->length = 0;
-    put_operator(part, FENALUKKI_KIND_SUM);
-    put_trailer(part, 1);
-}
-
-/* 2 to 5. */
-static void spoil_trailer(struct part *part, int number)
-{
-    size_t trailer = part->length - FENALUKKI_TRAILER_BYTES;
-
-    switch (number) {
-    case FENALUKKI_REFUSED_FILE_MARK:
-        part->bytes[part->length - 1] = 0;
-        break;
-    case FENALUKKI_REFUSED_VERSION:
-        set16(part, trailer + 2, FENALUKKI_FILE_VERSION + 1);
-        break;
-    case FENALUKKI_REFUSED_DISTANCE:
-        set16(part, trailer + 4, (int)part->length + FENALUKKI_RECORD_BYTES);
-        break;
-    case FENALUKKI_REFUSED_ISO:
-        set16(part, trailer, FENALUKKI_ISO_MAX + 1);
-        break;
-    }
-}
-
-/* 1 and 6 to 11. */
-static void spoil_records(struct part *part, int number)
-{
     switch (number) {
     case FENALUKKI_REFUSED_LENGTH:
-        part->length = FENALUKKI_FILE_BYTES_MIN - 1;
+        part.length = FENALUKKI_FILE_BYTES_MIN - 1;
         break;
+    case FENALUKKI_REFUSED_FILE_MARK:
+        trailer[11] = 0;
+        break;
+    case FENALUKKI_REFUSED_VERSION:
+        trailer[2] = FENALUKKI_FILE_VERSION + 1;
+        break;
+    case FENALUKKI_REFUSED_DISTANCE:
+        trailer[4] += FENALUKKI_RECORD_BYTES;
+        break;
+    }
+    return fenalukki_check(part.bytes, part.length);
+}
+
+static uint32_t write_numbers(const int32_t *numbers, size_t count, uint32_t iso)
+{
+    static uint8_t buffer[FENALUKKI_WRITE_BYTES_MAX];
+
+    return fenalukki_write(numbers, count, iso, buffer, sizeof buffer, 0);
+}
+
+static uint32_t write_points(size_t count)
+{
+    static int32_t numbers[FENALUKKI_NUMBERS_MAX];
+    size_t i;
+
+    for (i = 0; i < count; i++)
+        memcpy(numbers + i * FENALUKKI_NUMBERS_PER_NODE, bar_and_ball,
+               FENALUKKI_NUMBERS_PER_NODE * sizeof *numbers);
+    return write_numbers(numbers, count * FENALUKKI_NUMBERS_PER_NODE, ISO);
+}
+
+/* 6 to 8 by a write of a node that has one fault. */
+static uint32_t refused_node(int number)
+{
+    int32_t numbers[NUMBERS], *sum = numbers + 2 * FENALUKKI_NUMBERS_PER_NODE;
+
+    memcpy(numbers, bar_and_ball, sizeof numbers);
+    switch (number) {
     case FENALUKKI_REFUSED_KIND:
-        part->bytes[0] = FENALUKKI_KIND_CUT + 1;
+        numbers[FENALUKKI_NODE_KIND] = FENALUKKI_KIND_CUT + 1;
         break;
     case FENALUKKI_REFUSED_ZERO_BYTES:
-        part->bytes[1] = 1;
+        sum[FENALUKKI_NODE_WEIGHT] = 1;
         break;
     case FENALUKKI_REFUSED_POINT:
-        set16(part, 2, FENALUKKI_RADIUS_MAX + 1);
+        numbers[FENALUKKI_NODE_RADIUS] = FENALUKKI_RADIUS_MAX + 1;
         break;
-    case FENALUKKI_REFUSED_TOO_FEW_HELD:
-        put_lone_operator(part);
-        break;
+    }
+    return write_numbers(numbers, NUMBERS, ISO);
+}
+
+/* 5, 9 to 11, 16 and 17 by a write. */
+static uint32_t refused_write(int number)
+{
+    uint8_t buffer[NODES * FENALUKKI_RECORD_BYTES]; /* no room for the trailer */
+    enum { TWO_NODES = 2 * FENALUKKI_NUMBERS_PER_NODE };
+
+    switch (number) {
+    case FENALUKKI_REFUSED_ISO:
+        return write_numbers(bar_and_ball, NUMBERS, FENALUKKI_ISO_MAX + 1);
+    case FENALUKKI_REFUSED_TOO_FEW_HELD: /* from the sum on */
+        return write_numbers(bar_and_ball + TWO_NODES, NUMBERS - TWO_NODES, ISO);
     case FENALUKKI_REFUSED_TOO_MANY_HELD:
-        put_points(part, FENALUKKI_HELD_MAX + 1);
-        break;
+        return write_points(FENALUKKI_HELD_MAX + 1);
     case FENALUKKI_REFUSED_NOT_ONE_HELD:
-        put_points(part, 2);
-        break;
+        return write_points(2);
+    case FENALUKKI_REFUSED_NUMBERS:
+        return write_numbers(bar_and_ball, NUMBERS - 1, ISO);
+    case FENALUKKI_REFUSED_WRITE_ROOM:
+        return fenalukki_write(bar_and_ball, NUMBERS, ISO, buffer, sizeof buffer, 0);
+    default:
+        return refused_node(number);
     }
 }
 
-/* 12 to 15 by a place, a ray, a buffer or a float. */
+/* 12 to 15 by a place, a ray, a buffer or a float, the others as above. */
 static uint64_t refused_call(const struct part *part, int number)
 {
     uint8_t bits[FENALUKKI_COLUMN_BYTES];
@@ -530,23 +553,19 @@ static uint64_t refused_call(const struct part *part, int number)
         return fenalukki_viewer_first_hit(part->bytes, part->length, 0.1f, 0, 0, 1, 0, 0,
                                           FENALUKKI_ENOUGH);
     default:
-        return fenalukki_check(part->bytes, part->length);
+        return number < FENALUKKI_REFUSED_ISO ? refused_file(*part, number)
+                                              : refused_write(number);
     }
 }
 
-static void show_refusals(void)
+static void show_refusals(const struct part *part)
 {
-    static struct part part;
     int number;
 
-    printf("\n10. Refusals\n");
+    printf("\n11. Refusals\n");
     for (number = 1; number <= FENALUKKI_REFUSALS; number++) {
-        uint64_t answer;
+        uint64_t answer = refused_call(part, number);
 
-        make_part(&part);
-        spoil_trailer(&part, number);
-        spoil_records(&part, number);
-        answer = refused_call(&part, number);
         printf("%2d: %s\n", fenalukki_refusal(answer), fenalukki_refusal_text(answer));
     }
 }
@@ -556,10 +575,11 @@ int main(void)
     static struct part part;
 
     printf("Fenalukki %s\n\n", FENALUKKI_VERSION);
-    make_part(&part);
+    make_part(&part, bar_and_ball);
     show_part(&part);
     if (!show_check(&part))
         return 1;
+    show_writes(&part);
     show_plane(&part);
     show_casts(&part);
     show_hits(&part);
@@ -567,6 +587,6 @@ int main(void)
     show_bounds(&part);
     show_overlaps();
     show_totals(&part);
-    show_refusals();
+    show_refusals(&part);
     return 0;
 }

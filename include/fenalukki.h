@@ -1,5 +1,6 @@
 /*
- * Fenalukki: casts of a ray through a part, for hosts and viewers in C or C++.
+ * Fenalukki: part files, and casts of a ray through a part, for hosts and
+ * viewers in C or C++.
  *
  * A part is a tree of soft points, handed over as the bytes of a part file.
  * The field of a point of weight w and radius r, at the distance d from its
@@ -21,9 +22,11 @@
  * weight times (S/(256 r) + 1/16384), where S adds the sizes of the ray's three
  * coordinate differences and r is the point's radius, both in steps.
  *
- * The ten entries
+ * The twelve entries
  *
  *   fenalukki_check                      a file's node count and iso-value
+ *   fenalukki_read                       the same, and the nodes' numbers
+ *   fenalukki_write                      a part file from the nodes' numbers
  *   fenalukki_place_bounds               the field's bounds at a place
  *   fenalukki_full_cast                  the mark of every tick
  *   fenalukki_first_hit                  the first tick that is not empty
@@ -40,11 +43,13 @@
  *
  * The part file
  *
- *   docs/FORMAT.md, installed as share/doc/fenalukki/FORMAT.md, says how to
- *   build one and has a worked file byte by byte. In short: numbers are
- *   little-endian. Records of 12 bytes are in postfix order: a point adds a
- *   held value, an operator replaces the last two by one, the last being its
- *   later operand, and one is left at the end.
+ *   fenalukki_write makes one, and fenalukki_read takes it apart: six numbers a
+ *   node, its kind, r, x, y, z and w. docs/FORMAT.md, installed as
+ *   share/doc/fenalukki/FORMAT.md, says how to build a part and has a worked
+ *   file byte by byte. In short: numbers are little-endian. Records of 12 bytes,
+ *   one for each node, are in postfix order: a point adds a held value, an
+ *   operator replaces the last two by one, the last being its later operand,
+ *   and one is left at the end.
  *
  *     byte 0       kind: 1 point, or an operator: 2 sum, 3 greater, 4 lesser,
  *                  5 cut
@@ -72,6 +77,14 @@
  *                       always enough
  *   marks, marks_len    the buffer of a full cast, 1,024 bytes or more
  *   bits, bits_len      the buffer of a column, 128 bytes or more
+ *   numbers, numbers_len
+ *                       of a write: the nodes' numbers, any numbers, and how
+ *                       many they are (not how many bytes)
+ *   numbers             of a read: 3,066 numbers, six for each of 511 nodes
+ *   iso                 of a write: the iso-value, any number
+ *   buffer, buffer_len  of a write: the buffer that the file is written into
+ *   place               of a write: the first record's offset in the buffer,
+ *                       any number
  *   bounds              two numbers
  *   totals              three numbers
  *
@@ -79,11 +92,13 @@
  *
  *   Each pointer is valid for its length, for reading, and a buffer's for
  *   writing too. Nothing is read or written through a pointer whose length is
- *   0, and such a pointer may be null. bounds and totals have no length: they
- *   are never null, and valid for two and three numbers. The file, the buffer,
- *   bounds and totals do not overlap. Nobody else writes the file, or reads or
+ *   0, and such a pointer may be null. bounds, totals and the numbers of a read
+ *   have no length: they are never null, and valid for two, three and 3,066
+ *   numbers. The file, the numbers, the buffer, bounds and totals do not
+ *   overlap. Nobody else writes the file or the numbers of a write, or reads or
  *   writes what is written, during a call. The contents of totals are set
- *   beforehand; those of a buffer and of bounds need not be.
+ *   beforehand; those of a buffer, of bounds and of the numbers of a read need
+ *   not be.
  *   In the viewer's calls the floating-point environment is the default one:
  *   exceptions masked, rounding to nearest, denormals not flushed to zero
  *   (gcc's -ffast-math, given when linking, flushes them).
@@ -93,18 +108,25 @@
  *
  *   Every call comes back, whatever it is handed. It keeps no pointer and no
  *   state, uses no heap and no global data, and writes nothing but its buffer,
- *   bounds or totals. Calls may run at the same time on several threads, on one
- *   file too, as long as what they write differs. A call needs about 26 KiB of
- *   stack, measured on the compiled archive; 64 KiB are tested to be enough.
+ *   bounds, totals or, in a read, numbers. Calls may run at the same time on
+ *   several threads, on one file too, as long as what they write differs.
+ *   A cast or the bounds at a place need about 26 KiB of stack, a check, a read
+ *   and a write less than 1 KiB, measured on the compiled archive; 64 KiB are
+ *   tested to be enough.
  *
  * The number that a call returns
  *
  *   Below 65,536 it is a refusal number; the readers at the end of this header
- *   take any other apart. A refused call leaves its buffer and bounds as they
- *   were. Questions are asked in this order, 6 to 10 of each record in file
- *   order; the first one answered no decides. A check asks 1 to 11, bounds at a
- *   place 1 to 12, a first hit 1 to 13, a full cast and a column 1 to 14, and a
- *   viewer's first hit 1 to 11, then 15, then 13.
+ *   take any other apart. A refused call leaves its buffer, bounds and numbers
+ *   as they were. Each call asks its questions in this order, 6 to 10 of each
+ *   node in file order; the first one answered no decides.
+ *
+ *     a check, a read             1 to 11
+ *     a write                     16, then 5 to 11 of what is given, then 17
+ *     bounds at a place           1 to 12
+ *     a first hit                 1 to 13
+ *     a full cast, a column       1 to 14
+ *     a viewer's first hit        1 to 11, then 15, then 13
  *
  *    1  Is the file 24 to 65,536 bytes long?
  *    2  Are its last four bytes hexadecimal 54 52 45 45?
@@ -112,8 +134,9 @@
  *    4  Is the distance back to the first record 24 to 6,144, a multiple of 12
  *       and no more than the file's length?
  *    5  Is the iso-value 1 to 4,096?
- *    6  Is the record's kind 1 (point) or an operator's, 2 to 5?
- *    7  Are its zero bytes zero: byte 1 of a point, 1 to 11 of an operator?
+ *    6  Is the node's kind 1 (point) or an operator's, 2 to 5?
+ *    7  Are its zero bytes zero: byte 1 of a point, 1 to 11 of an operator? In a
+ *       write: are an operator's five other numbers 0?
  *    8  Of a point: is the radius 1 to 1,024, each coordinate -2,047 to 2,047
  *       and the weight -4,096 to 4,096?
  *    9  Of an operator: are at least two values held?
@@ -123,6 +146,9 @@
  *   13  Do the ray's ends differ?
  *   14  Has the buffer room: 1,024 bytes for marks, 128 for a column?
  *   15  Is each float finite and 64 times it whole, from -2,047 to 2,047?
+ *   16  Is the count of numbers a multiple of six from 6 to 3,066?
+ *   17  Do records and trailer, 12 bytes a node and 12, end within the buffer
+ *       and by byte 65,536 of it?
  *
  * What a call costs
  *
@@ -154,9 +180,9 @@
 /* The version of this header and of the archive beside it. The major number
  * changes where a host has to change, the minor where names are added. */
 #define FENALUKKI_VERSION_MAJOR 1
-#define FENALUKKI_VERSION_MINOR 1
+#define FENALUKKI_VERSION_MINOR 2
 #define FENALUKKI_VERSION_PATCH 0
-#define FENALUKKI_VERSION "1.1.0"
+#define FENALUKKI_VERSION "1.2.0"
 #define FENALUKKI_VERSION_NUMBER \
     (FENALUKKI_VERSION_MAJOR * 10000 + FENALUKKI_VERSION_MINOR * 100 + FENALUKKI_VERSION_PATCH)
 
@@ -184,6 +210,18 @@
 #define FENALUKKI_KIND_GREATER 3
 #define FENALUKKI_KIND_LESSER 4
 #define FENALUKKI_KIND_CUT 5 /* the earlier value without the later */
+
+/* A node's numbers, in a write and a read: how many, which is which, and the
+ * most of a part; and the most bytes that a write writes. */
+#define FENALUKKI_NUMBERS_PER_NODE 6
+#define FENALUKKI_NODE_KIND 0
+#define FENALUKKI_NODE_RADIUS 1
+#define FENALUKKI_NODE_X 2
+#define FENALUKKI_NODE_Y 3
+#define FENALUKKI_NODE_Z 4
+#define FENALUKKI_NODE_WEIGHT 5
+#define FENALUKKI_NUMBERS_MAX 3066
+#define FENALUKKI_WRITE_BYTES_MAX 6144 /* 511 records and the trailer */
 
 /* Marks: a tick's byte after a full cast. */
 #define FENALUKKI_EMPTY 0
@@ -226,7 +264,9 @@
 #define FENALUKKI_REFUSED_EQUAL_ENDS 13
 #define FENALUKKI_REFUSED_ROOM 14
 #define FENALUKKI_REFUSED_FLOAT 15
-#define FENALUKKI_REFUSALS 15
+#define FENALUKKI_REFUSED_NUMBERS 16
+#define FENALUKKI_REFUSED_WRITE_ROOM 17
+#define FENALUKKI_REFUSALS 17
 
 #ifdef __cplusplus
 extern "C" {
@@ -242,6 +282,47 @@ extern "C" {
  * A file that passes is refused by no other call for its bytes.
  */
 uint64_t fenalukki_check(const uint8_t *file, size_t file_len);
+
+/*
+ * Read of a file: the check, and the numbers of its nodes.
+ *
+ * Returns what fenalukki_check returns:
+ *   1 to 11                          the refusal number
+ *   2^32 + nodes * 65,536 + iso      nodes is the count of records, 1 to 511
+ *
+ * Unless refused, numbers[6 * i] to numbers[6 * i + 5] are the kind, r, x, y, z
+ * and w of node i, for i from 0 to nodes - 1 in file order; an operator's last
+ * five are 0. numbers[6 * nodes] and those after it are never written.
+ */
+uint64_t fenalukki_read(const uint8_t *file, size_t file_len,
+                        int32_t numbers[3066]);
+
+/*
+ * Write of a part file: the records and the trailer of the nodes whose numbers
+ * are given, from a place in the buffer on. The file's version is 1.
+ *
+ * numbers[6 * i] to numbers[6 * i + 5] are the kind, r, x, y, z and w of node i,
+ * in file order; an operator's last five are 0.
+ *
+ * Returns
+ *   5 to 11, 16 or 17                the refusal number
+ *   65,536 + end                     end is place + 12 * nodes + 12, at most
+ *                                    65,536: the place just after the trailer
+ *
+ * Unless refused, record i is buffer[place + 12 * i] and the 11 bytes after it,
+ * and the trailer is the last 12 bytes before end. Bytes before place and from
+ * end on are never written.
+ *
+ * The end bytes from the buffer's start on are then a part file, whatever stands
+ * before place. fenalukki_check and fenalukki_read of it return the nodes and
+ * the iso-value given, and fenalukki_read gives back the numbers given. The
+ * other way round, what fenalukki_read gives of a file that begins with its
+ * first record (it is 12 * nodes + 12 bytes long), written at place 0, is that
+ * file byte by byte.
+ */
+uint32_t fenalukki_write(const int32_t *numbers, size_t numbers_len,
+                         uint32_t iso,
+                         uint8_t *buffer, size_t buffer_len, size_t place);
 
 /*
  * Bounds at a place: two numbers between which the exact field lies there.
@@ -466,16 +547,23 @@ static inline float fenalukki_place(uint64_t number)
     return (float)fenalukki_tick(number) / FENALUKKI_TICKS;
 }
 
-/* Of a check: the file's node count; 0 where it was refused. */
+/* Of a check or a read: the file's node count; 0 where it was refused. */
 static inline int fenalukki_nodes(uint64_t number)
 {
     return (int)(number >> 16 & 0xffff);
 }
 
-/* Of a check: the iso-value; 0 where it was refused. */
+/* Of a check or a read: the iso-value; 0 where it was refused. */
 static inline int fenalukki_iso(uint64_t number)
 {
     return number < 65536 ? 0 : (int)(number & 0xffff);
+}
+
+/* Of a write: the place just after the trailer; 0 where it was refused. From a
+ * buffer's start it is the part file's length. */
+static inline size_t fenalukki_end(uint64_t number)
+{
+    return number < 65536 ? 0 : (size_t)(number - 65536);
 }
 
 /* Of any call's number, or of a refusal number alone: why it was refused. */
@@ -488,8 +576,8 @@ static inline const char *fenalukki_refusal_text(uint64_t number)
         "the file's version is not 1",
         "the distance to the first record is outside 24 to 6,144, not a multiple of 12, or more than the file's length",
         "the iso-value is outside 1 to 4,096",
-        "a record's kind is outside 1 to 5",
-        "a record's zero bytes are not all zero",
+        "a node's kind is outside 1 to 5",
+        "a record's zero bytes, or an operator's five other numbers, are not all zero",
         "a point's radius is outside 1 to 1,024, a coordinate outside -2,047 to 2,047, or the weight outside -4,096 to 4,096",
         "an operator comes where fewer than two values are held",
         "a point comes where 64 values are held",
@@ -497,7 +585,9 @@ static inline const char *fenalukki_refusal_text(uint64_t number)
         "a coordinate of the place or ray is outside -2,047 to 2,047",
         "the ray's ends are equal",
         "the buffer is smaller than 1,024 bytes for marks or 128 for a column",
-        "a float in millimetres is not a multiple of 1/64 from -2,047/64 to 2,047/64"
+        "a float in millimetres is not a multiple of 1/64 from -2,047/64 to 2,047/64",
+        "the count of numbers is not a multiple of six from 6 to 3,066",
+        "records and trailer do not end within the buffer and by byte 65,536"
     };
 
     if (number >= 65536)

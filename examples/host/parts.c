@@ -2,55 +2,42 @@
  * core.part, core-sum.part and core-cut.part, a filter core with its bores made
  * in three ways; k.part, one point. All numbers are whole, lengths in steps of
  * 1/64 mm, so the bytes are the same everywhere. */
-#include <stdint.h>
+#include "fenalukki.h"
+
 #include <stdio.h>
 
-enum { POINT = 1, SUM = 2, GREATER = 3, CUT = 5 };
-enum { RECORD = 12, TRAILER = 12, MOST_BYTES = 6144 };
+enum { SUM = FENALUKKI_KIND_SUM, GREATER = FENALUKKI_KIND_GREATER, CUT = FENALUKKI_KIND_CUT };
 
 struct part {
-    uint8_t bytes[MOST_BYTES]; /* 511 records and the trailer */
-    size_t length;
+    int32_t numbers[FENALUKKI_NUMBERS_MAX];
+    size_t count; /* of numbers */
+    uint32_t iso;
 };
 
-static void put16(struct part *part, int number)
+static void put_node(struct part *part, int kind, int r, int x, int y, int z, int w)
 {
-    part->bytes[part->length++] = (uint8_t)number;
-    part->bytes[part->length++] = (uint8_t)((uint16_t)number >> 8);
+    int32_t *node = part->numbers + part->count;
+
+    node[FENALUKKI_NODE_KIND] = kind;
+    node[FENALUKKI_NODE_RADIUS] = r;
+    node[FENALUKKI_NODE_X] = x;
+    node[FENALUKKI_NODE_Y] = y;
+    node[FENALUKKI_NODE_Z] = z;
+    node[FENALUKKI_NODE_WEIGHT] = w;
+    part->count += FENALUKKI_NUMBERS_PER_NODE;
 }
 
 /* Each put_ function below leaves one held value more. */
 
 static void put_point(struct part *part, int r, int x, int y, int z, int w)
 {
-    put16(part, POINT);
-    put16(part, r);
-    put16(part, x);
-    put16(part, y);
-    put16(part, z);
-    put16(part, w);
+    put_node(part, FENALUKKI_KIND_POINT, r, x, y, z, w);
 }
 
 /* Replaces the last two held values by one. */
 static void join(struct part *part, int kind)
 {
-    int i;
-
-    part->bytes[part->length++] = (uint8_t)kind;
-    for (i = 1; i < RECORD; i++)
-        part->bytes[part->length++] = 0;
-}
-
-static void end_part(struct part *part, int iso)
-{
-    int distance = (int)part->length + TRAILER;
-
-    put16(part, iso);
-    put16(part, 1);
-    put16(part, distance);
-    put16(part, 0);
-    put16(part, 0x5254);
-    put16(part, 0x4545);
+    put_node(part, kind, 0, 0, 0, 0, 0);
 }
 
 /* The pad: two layers of four bars each way, with a post at each crossing. The
@@ -110,7 +97,7 @@ static void make_pad(struct part *part)
     put_bars(part);
     put_posts(part);
     join(part, SUM);
-    end_part(part, PAD_ISO);
+    part->iso = PAD_ISO;
 }
 
 /* A core: a body of four layers, a collar at its foot, the greater of the two,
@@ -208,7 +195,7 @@ static void make_bored(struct part *part, const struct bores *bores, int w, int 
     join(part, GREATER);
     put_bores(part, bores, w);
     join(part, kind);
-    end_part(part, CORE_ISO);
+    part->iso = CORE_ISO;
 }
 
 static void make_core(struct part *part)
@@ -232,33 +219,50 @@ static void make_core_cut(struct part *part)
 static void make_k(struct part *part)
 {
     put_point(part, 512, 0, 0, 0, 4);
-    end_part(part, 1);
+    part->iso = 1;
 }
 
-static int write_file(const char *path, const struct part *part)
+static int write_file(const char *path, const uint8_t *bytes, size_t length)
 {
     FILE *file = fopen(path, "wb");
     size_t written;
 
     if (file == NULL)
         return 0;
-    written = fwrite(part->bytes, 1, part->length, file);
-    return fclose(file) == 0 && written == part->length;
+    written = fwrite(bytes, 1, length, file);
+    return fclose(file) == 0 && written == length;
 }
 
-static int write_part(const char *folder, const char *name, void (*make)(struct part *))
+/* Returns 1 unless the part is refused or the file cannot be written. */
+static int write_part(const char *path, const struct part *part)
+{
+    static uint8_t bytes[FENALUKKI_WRITE_BYTES_MAX];
+    uint32_t number = fenalukki_write(part->numbers, part->count, part->iso, bytes, sizeof bytes, 0);
+
+    if (fenalukki_refusal(number)) {
+        fprintf(stderr, "parts: %s: %s\n", path, fenalukki_refusal_text(number));
+        return 0;
+    }
+    if (!write_file(path, bytes, fenalukki_end(number))) {
+        fprintf(stderr, "parts: cannot write %s\n", path);
+        return 0;
+    }
+    return 1;
+}
+
+static int write_made(const char *folder, const char *name, void (*make)(struct part *))
 {
     static struct part part;
     char path[4096];
     int length = snprintf(path, sizeof path, "%s/%s", folder, name);
 
-    part.length = 0;
-    make(&part);
-    if (length < 0 || (size_t)length >= sizeof path || !write_file(path, &part)) {
+    if (length < 0 || (size_t)length >= sizeof path) {
         fprintf(stderr, "parts: cannot write %s/%s\n", folder, name);
         return 0;
     }
-    return 1;
+    part.count = 0;
+    make(&part);
+    return write_part(path, &part);
 }
 
 int main(int argc, char **argv)
@@ -269,9 +273,9 @@ int main(int argc, char **argv)
                         "into FOLDER.\n");
         return 1;
     }
-    return !(write_part(argv[1], "pad.part", make_pad)
-             && write_part(argv[1], "core.part", make_core)
-             && write_part(argv[1], "core-sum.part", make_core_sum)
-             && write_part(argv[1], "core-cut.part", make_core_cut)
-             && write_part(argv[1], "k.part", make_k));
+    return !(write_made(argv[1], "pad.part", make_pad)
+             && write_made(argv[1], "core.part", make_core)
+             && write_made(argv[1], "core-sum.part", make_core_sum)
+             && write_made(argv[1], "core-cut.part", make_core_cut)
+             && write_made(argv[1], "k.part", make_k));
 }

@@ -1,6 +1,8 @@
 //! The interface for C: the header against the Rattle source and against the archive, its inline functions, the tour, the format's
-//! document and the installed files.
+//! document, the installed files and the desk tool.
 
+#[path = "c_interface/desk.rs"]
+mod desk;
 #[path = "c_interface/prototypes.rs"]
 mod prototypes;
 
@@ -77,7 +79,7 @@ fn header_entries() -> BTreeMap<String, Entry> {
 fn the_header_declares_what_the_crate_exports() {
     let exported = rattle_entries(&read("crates/fenalukki/src/lib.rt"));
     assert_eq!(header_entries(), exported);
-    assert_eq!(exported.len(), 10);
+    assert_eq!(exported.len(), 12);
 }
 
 /// A header that differs in one word is told apart.
@@ -101,6 +103,16 @@ fn a_drift_of_the_header_is_seen() {
         ("const uint8_t *file", "uint8_t *file"),
         ("uint32_t budget,\n", "int32_t budget,\n"),
         ("uint32_t budget,\n", ""),
+        ("const int32_t *numbers", "int32_t *numbers"),
+        ("const int32_t *numbers", "const uint32_t *numbers"),
+        ("int32_t numbers[3066]", "int32_t numbers[3065]"),
+        ("int32_t numbers[3066]", "const int32_t numbers[3066]"),
+        ("size_t numbers_len", "size_t numbers_count"),
+        ("size_t place", "uint32_t place"),
+        (
+            "size_t buffer_len, size_t place",
+            "size_t place, size_t buffer_len",
+        ),
     ] {
         assert!(header.contains(from), "{from}");
         let drifted = c_entries(&header.replacen(from, to, 1));
@@ -215,6 +227,20 @@ fn the_names_of_kinds() {
     assert_eq!(header.matches("#define FENALUKKI_KIND_").count(), 5);
 }
 
+/// A node's six numbers in their order, and how much there is of the longest part.
+#[test]
+fn the_names_of_numbers() {
+    let names = ["KIND", "RADIUS", "X", "Y", "Z", "WEIGHT"];
+    let order = names.map(|name| named(&format!("NODE_{name}")));
+    assert_eq!(order, [0, 1, 2, 3, 4, 5]);
+    let header = read("include/fenalukki.h");
+    assert_eq!(header.matches("#define FENALUKKI_NODE_").count(), 6);
+    let (a_node, records) = (named("NUMBERS_PER_NODE"), named("RECORDS_MAX"));
+    assert_eq!((a_node, named("NUMBERS_MAX")), (6, a_node * records));
+    let bytes = named("RECORD_BYTES") * records + named("TRAILER_BYTES");
+    assert_eq!(named("WRITE_BYTES_MAX"), bytes);
+}
+
 /// The words of a line of `readers.c` for a call's number.
 const REFUSAL: usize = 0;
 const PROBES: usize = 1;
@@ -225,7 +251,8 @@ const MARK: usize = 5;
 const PLACE: usize = 6;
 const NODES: usize = 7;
 const ISO: usize = 8;
-const SECOND_UNIT: usize = 9;
+const END: usize = 9;
+const SECOND_UNIT: usize = 10;
 
 /// A call's number, and what the readers that are for it say.
 type Reading = (u64, Vec<(usize, String)>);
@@ -244,7 +271,7 @@ fn reading(number: u64, words: &[(usize, u32)]) -> Reading {
 }
 
 fn refused(number: u32) -> Reading {
-    let zero = [PROBES, SPENT, K, TICK, PLACE, NODES, ISO].map(|word| (word, 0));
+    let zero = [PROBES, SPENT, K, TICK, PLACE, NODES, ISO, END].map(|word| (word, 0));
     let said = [(REFUSAL, number), (SECOND_UNIT, number), (MARK, 3)];
     reading(number.into(), &[&zero[..], &said[..]].concat())
 }
@@ -290,8 +317,13 @@ fn check(nodes: u32, iso: u32) -> Reading {
     reading(number, &[(NODES, nodes), (ISO, iso)])
 }
 
+fn write(end: u32) -> Reading {
+    reading(65_536 + u64::from(end), &[(END, end)])
+}
+
 fn readings() -> Vec<Reading> {
-    let mut all: Vec<Reading> = (1..=15).map(refused).collect();
+    let mut all: Vec<Reading> = (1..=17).map(refused).collect();
+    all.extend([24, 25, 255, 256, 6144, 65_535, 65_536].map(write));
     for probes in [0, 1, 15, 255, 256, 2046, 2047] {
         all.extend(casts(probes));
         all.extend(
@@ -365,17 +397,17 @@ fn the_width_of_the_bounds_at_a_place() {
 /// Each refusal number has a text of its own.
 #[test]
 fn refusal_texts() {
-    let numbers = (0..=15).chain([16, 65_535, 65_536, 65_575, 1 << 32]);
+    let numbers = (0..=17).chain([18, 65_535, 65_536, 65_575, 1 << 32]);
     let input: String = numbers.map(|n: u64| format!("n {n:x}\n")).collect();
     for program in readers("texts") {
         let output = printed(&program, &input);
-        let texts = output.lines().map(|line| line.splitn(11, ' ').last());
+        let texts = output.lines().map(|line| line.splitn(12, ' ').last());
         let texts: Vec<&str> = texts.map(|text| text.expect("a text")).collect();
-        let own: BTreeSet<&str> = texts[1..=15].iter().copied().collect();
-        assert_eq!(own.len(), 15);
+        let own: BTreeSet<&str> = texts[1..=17].iter().copied().collect();
+        assert_eq!(own.len(), 17);
         assert!(!own.contains("no refusal number") && !own.contains("not refused"));
-        assert_eq!([texts[0], texts[16], texts[17]], ["no refusal number"; 3]);
-        assert_eq!(texts[18..], ["not refused"; 3]);
+        assert_eq!([texts[0], texts[18], texts[19]], ["no refusal number"; 3]);
+        assert_eq!(texts[20..], ["not refused"; 3]);
     }
 }
 
@@ -483,16 +515,16 @@ fn edited_tour(name: &str, edits: &[(&str, &str)]) -> String {
 #[test]
 fn a_tour_of_a_refused_part() {
     let check = "if (!show_check(&part))\n        return 1;";
-    let edits = [
-        ("put_trailer(part, ISO)", "put_trailer(part, 0)"),
-        (check, "show_check(&part);"),
-    ];
+    let end = "part->length = fenalukki_end(number);";
+    let no_iso = format!("{end}\n    part->bytes[60] = part->bytes[61] = 0;");
+    let edits = [(end, &no_iso[..]), (check, "show_check(&part);")];
     let output = edited_tour("spoiled_tour", &edits);
     let sections: Vec<&str> = output.split("\n\n").collect();
-    assert_eq!(sections.len(), 11);
-    for (section, refused) in sections[2..9].iter().zip([1, 1, 3, 4, 3, 4, 6]) {
+    assert_eq!(sections.len(), 12);
+    let counts = [1, 1, 1, 1, 3, 4, 3, 4, 6];
+    for (section, refused) in sections[1..10].iter().zip(counts) {
         let lines = section.lines().rev().take(refused);
-        let said = lines.filter(|line| line.contains(": refused 5, ")).count();
+        let said = lines.filter(|line| line.contains("refused 5, ")).count();
         assert_eq!(said, refused, "{section}");
         assert!(section.lines().count() <= refused + 1, "{section}");
     }
@@ -527,7 +559,7 @@ fn worked_cut(format: &str) -> &str {
 
 /// What the tour prints of cut, and of lesser.
 fn overlaps(tour: &str) -> [&str; 2] {
-    let both = section(tour, "\n\n8. ", "\n\n9. ");
+    let both = section(tour, "\n\n9. ", "\n\n10. ");
     let (cut, lesser) = both.split_once("\nlesser, ").expect("both");
     [cut, lesser]
 }
@@ -577,8 +609,11 @@ fn the_values_of_the_worked_cut() {
 fn the_records_of_the_worked_cut() {
     let format = read("docs/FORMAT.md");
     let records = indented(worked_cut(&format), " 36 01 00");
-    let (from, to) = ("400, FENALUKKI_KIND_GREATER", "0, FENALUKKI_KIND_CUT");
-    let output = edited_tour("cut_tour", &[(from, to)]);
+    let edits = [
+        ("512, 0, 400, 64", "512, 0, 0, 64"),
+        ("FENALUKKI_KIND_GREATER", "FENALUKKI_KIND_CUT"),
+    ];
+    let output = edited_tour("cut_tour", &edits);
     assert_eq!(records.len(), 2);
     assert!(output.contains(&records.join("\n")), "{records:?}");
 }
@@ -598,24 +633,50 @@ fn the_format_shows_what_the_tour_prints() {
     }
 }
 
-/// The bytes that the document writes, as the reference reads them.
-#[test]
-fn the_worked_file_of_the_format() {
-    let format = read("docs/FORMAT.md");
-    let lines = indented(&format, "  0 01 00");
+/// The bytes that the document shows.
+fn worked_file(format: &str) -> Vec<u8> {
+    let lines = indented(format, "  0 01 00");
     let words = lines
         .iter()
         .flat_map(|line| line[3..].split_whitespace().take(12));
-    let file: Vec<u8> = words
-        .map(|word| u8::from_str_radix(word, 16).expect("a byte"))
-        .collect();
+    let bytes = words.map(|word| u8::from_str_radix(word, 16).expect("a byte"));
+    bytes.collect()
+}
+
+/// The bytes that the document shows, as the reference reads them, and as its commands print them.
+#[test]
+fn the_worked_file_of_the_format() {
+    let format = read("docs/FORMAT.md");
+    let file = worked_file(&format);
     assert_eq!((file.len(), part::check(&file)), (72, Ok((5, 768))));
-    let written = block(&format, "bash")
-        .lines()
-        .filter(|line| line.contains("three.part"));
-    let written: String = written.filter_map(|line| line.split('\'').nth(1)).collect();
-    let again: String = file.iter().map(|byte| format!("\\x{byte:02x}")).collect();
-    assert_eq!(written, again);
+    let line = |bytes: &[u8]| {
+        bytes
+            .iter()
+            .map(|b| format!(" {b:02x}"))
+            .collect::<String>()
+    };
+    let lines: Vec<String> = file.chunks(12).map(line).collect();
+    assert!(block(&format, "text").starts_with(&lines.join("\n")));
+}
+
+/// What the document's lines of C write is the worked file, and its numbers are the tour's.
+#[test]
+fn the_write_of_the_format() {
+    let format = read("docs/FORMAT.md");
+    let code = block(&format, "c");
+    let rows = code.lines().filter(|line| line.contains("FENALUKKI_KIND_"));
+    let rows: Vec<&str> = rows.collect();
+    assert_eq!(rows.len(), 5);
+    assert!(read("examples/tour.c").contains(&rows.join("\n")));
+    let source = temporary("write.c");
+    let code = format!(
+        "#include \"fenalukki.h\"\n#include <stdio.h>\nint main(void)\n{{\n{code}\
+         return fwrite(file, 1, length, stdout) != length;\n}}\n"
+    );
+    fs::write(&source, code).expect("written");
+    let program = c99("write", &[source.to_str().expect("a path")]);
+    let output = Command::new(program).output().expect("starts");
+    assert_eq!(output.stdout, worked_file(&format));
 }
 
 /// What the document's commands print.
@@ -628,15 +689,21 @@ fn the_commands_of_the_format() {
     assert_eq!(text(output.expect("bash")), block(&format, "text"));
 }
 
+/// The document's indented command that begins with some words, and the indented lines after it.
+fn shown_after<'a>(document: &'a str, words: &str) -> (&'a str, Vec<&'a str>) {
+    let command = indented(document, words)[0];
+    let shown = document.split_once(command).expect("its place").1;
+    let shown = shown.trim_start_matches('\n').lines();
+    let shown = shown.map_while(|line| line.strip_prefix("    "));
+    (command, shown.collect())
+}
+
 /// What the README says that the listers print.
 #[test]
 fn the_listers_of_the_readme() {
     let readme = read("README.md");
     for program in ["target/bin/partlist", "(printf"] {
-        let command = indented(&readme, program)[0];
-        let shown = readme.split_once(command).expect("its place").1;
-        let shown = shown.trim_start_matches('\n').lines();
-        let shown: Vec<&str> = shown.map_while(|line| line.strip_prefix("    ")).collect();
+        let (command, shown) = shown_after(&readme, program);
         let mut bash = Command::new("bash");
         let output = bash.args(["-c", command]).current_dir(root()).output();
         let output = text(output.expect("bash"));
@@ -717,7 +784,15 @@ fn a_host_built_with_pkg_config() {
     let _ = fs::remove_dir_all(&prefix);
     text(install(&[&prefix]));
     let prefix = prefix.canonicalize().expect("a folder");
-    for file in ["FORMAT.md", "pictures/kernel.svg", "examples/tour.c"] {
+    let placed = [
+        "FORMAT.md",
+        "pictures/kernel.svg",
+        "examples/tour.c",
+        "examples/desk/desk.c",
+        "examples/desk/mistakes.txt",
+        "examples/desk/bracket.drawing",
+    ];
+    for file in placed {
         assert!(
             prefix.join("share/doc/fenalukki").join(file).exists(),
             "{file}"

@@ -87,12 +87,12 @@ fn the_readme_shows_every_part_and_picture() {
     let readme = read("README.md");
     let parts = names("examples/parts", ".part");
     let pictures = names("docs/pictures", ".png");
-    assert_eq!((parts.len(), pictures.len()), (5, 11));
+    assert_eq!((parts.len(), pictures.len()), (6, 13));
     let parts = parts.iter().map(|name| format!("| `{name}`: "));
     let pictures = pictures
         .iter()
         .map(|name| format!("src=\"docs/pictures/{name}\""));
-    let counts = ["makes five part files", "writes eleven pictures"].map(String::from);
+    let counts = ["makes six part files", "writes thirteen pictures"].map(String::from);
     for shown in parts.chain(pictures).chain(counts) {
         assert!(readme.contains(&shown), "{shown}");
     }
@@ -113,7 +113,7 @@ fn the_points_of_the_readmes_parts() {
         assert_eq!(points, Some(Ok(file.expect(name).len() / 24)), "{name}");
         seen += 1;
     }
-    assert_eq!(seen, 3);
+    assert_eq!(seen, 4);
 }
 
 fn assert_paths(document: &str) {

@@ -72,7 +72,8 @@ buffer-refusal : (file : List ℕ) (ray : Ray) (need room : ℕ) {n : ℕ} → f
 unfolding bufferQuestions
 buffer-refusal file ray need room e =
     no-numbered 1 14 (bufferQuestions file ray need room)
-    (numbered-append 1 14 (hitQuestions file ray) ((14, leb need room) ∷ []) (hit-numbered file ray 14 (omega arith)) (omega arith, omega arith, tt)) e
+    (numbered-append 1 14 (hitQuestions file ray) ((14, leb need room) ∷ []) (hit-numbered file ray 14 (omega arith))
+    (omega arith, omega arith, tt)) e
 
 module _ (solid : Solid) (ray : Ray) where
   -- ---- demand 3

@@ -91,7 +91,8 @@ module _ (file : List ℕ) where
   unfolding boundsNumber PlaceSays placeQuestions
   bounds-told p (place.Refused n) e =
       inl (no-numbered 1 12 (placeQuestions file p)
-      (numbered-append 1 12 (fileQuestions file) ((12, positionInRange p) ∷ []) (file-numbered 12 (omega arith) file) (omega arith, omega arith, tt)) e)
+      (numbered-append 1 12 (fileQuestions file) ((12, positionInRange p) ∷ []) (file-numbered 12 (omega arith) file)
+      (omega arith, omega arith, tt)) e)
   bounds-told p (place.Bounded b) says = inr (omega arith)
 
   -- ---- the viewer's first hit

@@ -109,7 +109,8 @@ module _ (l : List ℤ) (i room place : ℕ) where
       go true false v h is f = let m : 5 ≡ n = cc in inl (omega arith, omega arith)
       go true true (No k) h is f =
           let m : k ≡ n = cc in
-          let r = no-numbered 6 11 (recordsQuestions (map recordOf (given l)) 0) (records-numbered 6 11 (omega arith) (omega arith) (map recordOf (given l)) 0) is in
+          let rs = map recordOf (given l) in
+          let r = no-numbered 6 11 (recordsQuestions rs 0) (records-numbered 6 11 (omega arith) (omega arith) rs 0) is in
           inl (omega (arith, r .0), omega (arith, r .1))
       go true true Yes false is f = let m : 17 ≡ n = cc in inr (inr (sym m))
       go true true Yes true is f = no-is-not-yes (sym f)

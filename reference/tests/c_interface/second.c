@@ -3,7 +3,7 @@
 #include "fenalukki.h"
 #include "fenalukki.h"
 
-#if FENALUKKI_VERSION_NUMBER < 10000 || FENALUKKI_REFUSED_FLOAT != FENALUKKI_REFUSALS || FENALUKKI_TOTALS_MAX != 0xffffffff
+#if FENALUKKI_VERSION_NUMBER < 10000 || FENALUKKI_REFUSED_WRITE_ROOM != FENALUKKI_REFUSALS || FENALUKKI_TOTALS_MAX != 0xffffffff
 #error "names of fenalukki.h do not agree"
 #endif
 
@@ -13,7 +13,7 @@ static const int64_t most_field = FENALUKKI_WEIGHT_MAX * FENALUKKI_BOUNDS_ONE;
 
 int second_unit(uint64_t number);
 
-/* 1 to 15 for a refusal number, 20 for any other number. */
+/* 1 to 17 for a refusal number, 20 for any other number. */
 int second_unit(uint64_t number)
 {
     static uint8_t marks[MARKS];
@@ -34,6 +34,8 @@ int second_unit(uint64_t number)
     case FENALUKKI_REFUSED_EQUAL_ENDS:
     case FENALUKKI_REFUSED_ROOM:
     case FENALUKKI_REFUSED_FLOAT:
+    case FENALUKKI_REFUSED_NUMBERS:
+    case FENALUKKI_REFUSED_WRITE_ROOM:
         return fenalukki_refusal(number);
     default:
         return most_field >> 32 == FENALUKKI_WEIGHT_MAX ? 20 + marks[0] : 0;
