@@ -459,11 +459,6 @@ uint64_t fenalukki_viewer_first_hit_counted(const uint8_t *file, size_t file_len
                                             uint32_t budget,
                                             uint32_t totals[3]);
 
-uint32_t fenalukki_write(const int32_t *numbers, size_t numbers_len, uint32_t iso,
-                         uint8_t *buffer, size_t buffer_len, size_t place);
-
-uint64_t fenalukki_read(const uint8_t *file, size_t file_len, int32_t numbers[3066]);
-
 #ifdef __cplusplus
 }
 #endif
