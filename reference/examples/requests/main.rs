@@ -13,7 +13,7 @@
 //!
 //! | At | Bytes | What |
 //! |----|-------|------|
-//! | 0 | 1 | call: 0 full cast, 1 first hit, 2 column, 3 viewer's first hit; 4 to 7 the same, counted; 8 check of a file; 9 bounds at a place; 10 write; 11 read |
+//! | 0 | 1 | call: 0 full cast, 1 first hit, 2 column, 3 viewer's first hit; 4 to 7 the same, counted; 8 check; 9 bounds; 10 write; 11 read |
 //! | 1 | 1 | 1 if the file or the drawing is damaged |
 //! | 2 | 2 | 0 |
 //! | 4 | 4 | the bytes of the file or of the numbers |
