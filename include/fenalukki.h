@@ -313,12 +313,12 @@ uint64_t fenalukki_read(const uint8_t *file, size_t file_len,
  * and the trailer is the last 12 bytes before end. Bytes before place and from
  * end on are never written.
  *
- * The end bytes from the buffer's start on are then a part file, whatever stands
- * before place. fenalukki_check and fenalukki_read of it return the nodes and
- * the iso-value given, and fenalukki_read gives back the numbers given. The
- * other way round, what fenalukki_read gives of a file that begins with its
- * first record (it is 12 * nodes + 12 bytes long), written at place 0, is that
- * file byte by byte.
+ * buffer[0] to buffer[end - 1] are then a part file, whatever stands before
+ * place. fenalukki_check and fenalukki_read of it return the nodes and the
+ * iso-value given, and fenalukki_read gives back the numbers given. The other
+ * way round, what fenalukki_read gives of a file that begins with its first
+ * record (it is 12 * nodes + 12 bytes long), written at place 0 of a buffer that
+ * is no shorter, is that file byte by byte.
  */
 uint32_t fenalukki_write(const int32_t *numbers, size_t numbers_len,
                          uint32_t iso,

@@ -7,8 +7,8 @@
  * docs/FORMAT.md has the drawing's grammar and an example. The tool reads words
  * and numbers; whether they make a part is asked of fenalukki_write alone.
  * Status 1 for a mistake in DRAWING or PART, which is printed and after which
- * nothing is written; 2 for a file that cannot be read or written, and for
- * usage. */
+ * nothing is written; 2 for a file that cannot be read or written, for one name
+ * given twice, and for usage. */
 #include "fenalukki.h"
 
 #include <ctype.h>
@@ -146,10 +146,14 @@ static uint32_t write_part(struct drawing *drawing, const int32_t *numbers, size
     return fenalukki_write(numbers, count, drawing->iso, drawing->part, sizeof drawing->part, 0);
 }
 
+/* In the header's words, but for a count of numbers, of which a drawing has none. */
 static int refused(const struct drawing *drawing, uint32_t number)
 {
-    return mistake(drawing, "refused %d, %s", fenalukki_refusal(number),
-                   fenalukki_refusal_text(number));
+    const char *text = fenalukki_refusal_text(number);
+
+    if (number == FENALUKKI_REFUSED_NUMBERS)
+        text = "a drawing has 1 to 511 nodes";
+    return mistake(drawing, "refused %d, %s", fenalukki_refusal(number), text);
 }
 
 /* Tried at once, with a point that is always accepted. */
@@ -337,6 +341,8 @@ static int read_command(const char *part_name, const char *name)
 
 int main(int argc, char **argv)
 {
+    if (argc == 4 && strcmp(argv[2], argv[3]) == 0)
+        return trouble("write over", argv[2]);
     if (argc == 4 && strcmp(argv[1], "write") == 0)
         return write_command(argv[2], argv[3]);
     if ((argc == 3 || argc == 4) && strcmp(argv[1], "read") == 0)

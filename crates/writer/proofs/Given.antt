@@ -6,7 +6,7 @@ use native.Mathlib.Numerals.{sub-one}
 use native.Mathlib.Omega.{arith}
 use mathlib.Core.Path.{_≡_, refl, sym, ap, ap₂, _∙_}
 use mathlib.Core.List.{List, [], _∷_, _++_}
-use lib.ListN.{length, drop}
+use lib.ListN.{length, getD, drop}
 use lib.Seq.{drop-length, getD-append-add}
 use lib.IntN.{ℤ, pos}
 use Rattle.record.specs.declared.Node.{Node}
@@ -90,3 +90,12 @@ given-numbers ns =
     let h = numbers-length ns in
     let e : length (numbers ns) / 6 ≡ length ns = omega arith in
     ap (λ (k : ℕ). nodesIn (numbers ns) k 0) e ∙ nodes-in ns
+
+-- in what a read hands over, each node is found at its place
+pub node-found : (ns : List Node) (rest : List ℤ) (k : ℕ) (d : Node) → k < length ns → nodeIn (numbers ns ++ rest) (6 * k) ≡ getD ns k d
+unfolding numbers nodeIn
+node-found [] rest k d h = absurd (not-suc-le-zero h)
+node-found (n ∷ ns) rest zero d h = refl
+node-found (n ∷ ns) rest (suc k) d h =
+    let e : 6 * suc k ≡ 6 + 6 * k = omega arith in
+    ap (nodeIn (numbers (n ∷ ns) ++ rest)) e ∙ node-after (numbers (n ∷ [])) (numbers ns ++ rest) (6 * k) ∙ node-found ns rest k d (omega arith)

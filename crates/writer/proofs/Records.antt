@@ -133,7 +133,20 @@ record-back n rest s e = rw (node-back n rest s, e) (ap (λ (t : Bool). record {
     go true p = point-zeros n rest
     go false p = blank-zeros n rest (operator-blank n e p)
 
--- as the code stores it
+-- ---- as the code stores it
+
+-- six 16-bit numbers by three pairs
+pub pairs-stored : (a b c d e f : ℕ) (l : List ℕ) (to : ℕ) {first second all : List ℕ}
+    → first ≡ sets l to (u16Bytes a ++ u16Bytes b) → second ≡ sets first (to + 4) (u16Bytes c ++ u16Bytes d)
+    → all ≡ sets second (to + 8) (u16Bytes e ++ u16Bytes f) → all ≡ sets l to (words a b c d e f)
+unfolding words u16Bytes
+pairs-stored a b c d e f l to p q r =
+    let u = u16Bytes a ++ u16Bytes b in
+    let v = u16Bytes c ++ u16Bytes d in
+    let w = u16Bytes e ++ u16Bytes f in
+    let two = q ∙ (λ i. sets (p i) (to + 4) v) ∙ sets-append u v l to in
+    r ∙ (λ i. sets (two i) (to + 8) w) ∙ sets-append (u ++ v) w l to
+
 pub record-words : (n : Node) → natAbs (n .kind) < 256
     → words (natAbs (n .kind)) (natAbs (n .radius)) (bits16 (n .x)) (bits16 (n .y)) (bits16 (n .z)) (bits16 (n .weight)) ≡ recordBytes n
 unfolding words recordBytes u16Bytes i16Bytes

@@ -29,10 +29,10 @@ counted n = between 6 3066 n && eqb (n % 6) 0
 unfoldable pub hasRoom : ℕ → ℕ → ℕ → Bool
 hasRoom count room place = leb (place + size count) room && leb (place + size count) 65536
 
--- 16; 5; 6 to 10 about each node in order, and 11; 17. `room` is the buffer's length.
+-- 16; 5; 6 to 10 about each node in order, and 11; 17. `i` is the iso-value, `room` the buffer's length.
 unfoldable pub writerQuestions : List ℤ → ℕ → ℕ → ℕ → List Question
-writerQuestions l iso room place =
-    ((16, counted (length l)) ∷ (5, between 1 4096 iso) ∷ [])
+writerQuestions l i room place =
+    ((16, counted (length l)) ∷ (5, between 1 4096 i) ∷ [])
     ++ recordsQuestions (map recordOf (given l)) 0
     ++ ((17, hasRoom (length l / 6) room place) ∷ [])
 
@@ -45,21 +45,21 @@ answerBy (No number) l place = Refused number
 
 -- records and trailer from the place on, between what stood before and after; of a refused call, as it was
 unfoldable pub bufferBy : Verdict → List ℤ → ℕ → List ℕ → ℕ → List ℕ
-bufferBy Yes l iso buffer place = take place buffer ++ partBytes (given l) iso ++ drop (place + size (length l / 6)) buffer
-bufferBy (No number) l iso buffer place = buffer
+bufferBy Yes l i buffer place = take place buffer ++ partBytes (given l) i ++ drop (place + size (length l / 6)) buffer
+bufferBy (No number) l i buffer place = buffer
 
 unfoldable pub writeAnswer : List ℤ → ℕ → ℕ → ℕ → Written
-writeAnswer l iso room place = answerBy (firstNo (writerQuestions l iso room place)) l place
+writeAnswer l i room place = answerBy (firstNo (writerQuestions l i room place)) l place
 
 unfoldable pub bufferLeft : List ℤ → ℕ → List ℕ → ℕ → List ℕ
-bufferLeft l iso buffer place = bufferBy (firstNo (writerQuestions l iso (length buffer) place)) l iso buffer place
+bufferLeft l i buffer place = bufferBy (firstNo (writerQuestions l i (length buffer) place)) l i buffer place
 
 -- ---- what is promised of them
 
--- "What the reader makes of the bytes from the buffer's start to the trailer's end is exactly what was given, the iso-value included"; "Bytes outside
--- the written part keep their contents."
-pub record WrittenPart (l : List ℤ) (iso : ℕ) (before : List ℕ) (place end : ℕ) (after : List ℕ) : Type 0 where
-  pub checked : checkFile (take end after) ≡ Accepted (record { nodes = length l / 6; iso = iso })
+-- "What the reader makes of the bytes from the buffer's start to the trailer's end is exactly what was given, the iso-value included"; "Bytes
+-- outside the written part keep their contents."
+pub record WrittenPart (l : List ℤ) (i : ℕ) (before : List ℕ) (place end : ℕ) (after : List ℕ) : Type 0 where
+  pub checked : checkFile (take end after) ≡ Accepted (record { nodes = length l / 6; iso = i })
   pub read : numbers (nodes (take end after)) ≡ l
   pub before-kept : take place after ≡ take place before
   pub after-kept : drop end after ≡ drop end before
@@ -72,9 +72,9 @@ WriteRefusal number = ((5 ≤ number) × (number ≤ 11)) ⊎ (number ≡ 16) �
 
 -- what each case of an answer says
 unfoldable pub WriteSays : List ℤ → ℕ → List ℕ → ℕ → Written → List ℕ → Type 0
-WriteSays l iso before place (Refused number) after =
-    (firstNo (writerQuestions l iso (length before) place) ≡ No number) × WriteRefusal number × (after ≡ before)
-WriteSays l iso before place (End end) after = WrittenPart l iso before place end after
+WriteSays l i before place (Refused number) after =
+    (firstNo (writerQuestions l i (length before) place) ≡ No number) × WriteRefusal number × (after ≡ before)
+WriteSays l i before place (End end) after = WrittenPart l i before place end after
 
 -- numbers and an iso-value that were read from an accepted file without leading bytes, and a buffer that is no shorter
 pub record ReadFrom (file : List ℕ) (l : List ℤ) (i : ℕ) (room : ℕ) : Type 0 where

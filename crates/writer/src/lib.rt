@@ -12,13 +12,13 @@ use record::record_questions;
 ghost use mathlib.Core.Path.{_≡_};
 ghost use Prim.Native.Nat.{_+_, _*_, _≤_};
 ghost use mathlib.Core.Bool.{cond};
-ghost use mathlib.Core.List.{map};
+ghost use mathlib.Core.List.{_++_, map};
 ghost use lib.ListN.{length};
 ghost use lib.Seq.{sets};
 ghost use Rattle.exact.specs.Range.{Small};
 ghost use Rattle.record.specs.Questions.{firstNo, next};
 ghost use Rattle.part.specs.File.{recordsQuestions};
-ghost use Rattle.writer.specs.Bytes.{bits16, words, recordBytes, recordsBytes, trailerBytes};
+ghost use Rattle.writer.specs.Bytes.{u16Bytes, bits16, words, recordBytes, recordsBytes, trailerBytes};
 ghost use Rattle.writer.specs.Given.{nodeIn, nodesIn, blank, recordOf};
 ghost use Rattle.writer.specs.Storable.{Storable, AllStorable};
 ghost use Rattle.writer.specs.Writer.{hasRoom, writerQuestions, writeAnswer, bufferLeft, WriteSays, Returned};
@@ -143,23 +143,25 @@ fn bits_of(z: i32) -> usize
     }
 }
 
-// Six 16-bit numbers: a record, and the trailer too.
-fn put_words(a: usize, b: usize, c: usize, d: usize, e: usize, f: usize, out: &mut [u8], to: usize)
-    requires { ⌜ to + 12 ≤ length (now out) ⌝ }
-    ensures { λ _. ⌜ now (out .exit) ≡ sets (now (out .entry)) to (words a b c d e f) ⌝ }
+// Two 16-bit numbers.
+fn put_pair(a: usize, b: usize, out: &mut [u8], to: usize)
+    requires { ⌜ to + 4 ≤ length (now out) ⌝ }
+    ensures { λ _. ⌜ now (out .exit) ≡ sets (now (out .entry)) to (u16Bytes a ++ u16Bytes b) ⌝ }
 {
     out[to] = (a % 256) as u8;
     out[to + 1] = (a / 256 % 256) as u8;
     out[to + 2] = (b % 256) as u8;
     out[to + 3] = (b / 256 % 256) as u8;
-    out[to + 4] = (c % 256) as u8;
-    out[to + 5] = (c / 256 % 256) as u8;
-    out[to + 6] = (d % 256) as u8;
-    out[to + 7] = (d / 256 % 256) as u8;
-    out[to + 8] = (e % 256) as u8;
-    out[to + 9] = (e / 256 % 256) as u8;
-    out[to + 10] = (f % 256) as u8;
-    out[to + 11] = (f / 256 % 256) as u8;
+}
+
+// Six 16-bit numbers: a record, and the trailer too.
+fn put_words(a: usize, b: usize, c: usize, d: usize, e: usize, f: usize, out: &mut [u8], to: usize)
+    requires { ⌜ to + 12 ≤ length (now out) ⌝ }
+    ensures { λ _. ⌜ now (out .exit) ≡ sets (now (out .entry)) to (words a b c d e f) ⌝ }
+{
+    put_pair(a, b, out, to);
+    put_pair(c, d, out, to + 4);
+    put_pair(e, f, out, to + 8);
 }
 
 // A node's record.

@@ -72,7 +72,7 @@ fn files(folder: &str, end: &str) -> Vec<PathBuf> {
 fn every_part_is_read_and_written_again() {
     let desk = desk("parts");
     let parts = files("examples/parts", "part");
-    assert!(parts.len() >= 5);
+    assert_eq!(parts.len(), 6);
     for path in parts {
         let file = fs::read(&path).expect("a part");
         let drawing = desk.drawing_of(&file);
@@ -225,8 +225,7 @@ fn long_drawings() {
     let joined = ["point 1 0 0 0 1", "cut"].repeat(255);
     let most = [&["point 1 0 0 0 1"], &joined[..]].concat();
     assert_eq!(answer_to(&desk, &most), Ok(6144));
-    let said =
-        "drawing:513: refused 16, the count of numbers is not a multiple of six from 6 to 3,066\n";
+    let said = "drawing:513: refused 16, a drawing has 1 to 511 nodes\n";
     for last in ["point 1 0 0 0 1", "sum"] {
         let more = [&most[..], &[last, "ball"]].concat();
         assert_eq!(answer_to(&desk, &more), Err(said.into()));
@@ -301,7 +300,7 @@ fn usage_and_files() {
     fs::create_dir(desk.path("folder")).expect("a folder");
     fs::write(desk.path("k"), "iso 1\npoint 512 0 0 0 4\n").expect("written");
     text(desk.run(&["write", "k", "k.part"]));
-    let cases: [(&[&str], &str); 11] = [
+    let cases: [(&[&str], &str); 13] = [
         (&[], usage),
         (&["write"], usage),
         (&["write", "k"], usage),
@@ -313,6 +312,8 @@ fn usage_and_files() {
         (&["write", "folder", "a"], "desk: cannot read folder\n"),
         (&["write", "k", "folder"], "desk: cannot write folder\n"),
         (&["read", "none"], "desk: cannot read none\n"),
+        (&["write", "k", "k"], "desk: cannot write over k\n"),
+        (&["read", "k.part", "k.part"], "desk: cannot write over k.part\n"),
     ];
     for (words, said) in cases {
         let output = desk.run(words);

@@ -43,7 +43,7 @@ fn every_part_of_the_examples() {
         }
         parts += 1;
     }
-    assert!(parts >= 5);
+    assert_eq!(parts, 6);
 }
 
 #[test]
