@@ -28,7 +28,7 @@ use Rattle.part.specs.declared.Checked.{Checked}
 use Rattle.part.specs.declared.Checked.the-variants as part
 use Rattle.nodes.specs.Numbers.{numbers}
 use Rattle.writer.specs.Bytes.{Octets, bits16, u16Bytes, u32Bytes, i16Bytes, recordBytes, recordsBytes, size, trailerBytes, partBytes}
-use Rattle.writer.specs.Given.{nodeIn, nodesIn, given, blank, recordOf}
+use Rattle.writer.specs.Given.{nodeIn, nodesIn, given, othersZero, recordOf}
 use Rattle.writer.specs.Writer.{counted, hasRoom, writerQuestions, WriteSays, ReadFrom, Returned}
 use Rattle.writer.specs.declared.Written.the-variants.{Refused, End}
 
@@ -104,7 +104,7 @@ rows =
 pub asked : map (λ r. firstNo (writerQuestions (r .numbers) (r .iso) (r .room) (r .place))) rows ≡ map (λ r. r .answer) rows
 unfolding
     rows points firstNo isPoint kindKnown coordinate inRange forPoint forOperator heldAfter nodeQuestions recordQuestions recordsQuestions nodeIn
-    nodesIn given blank recordOf size counted hasRoom writerQuestions
+    nodesIn given othersZero recordOf size counted hasRoom writerQuestions
 asked = refl
 
 -- ---- the bytes

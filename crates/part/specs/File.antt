@@ -34,7 +34,7 @@ distance file = u32 file (length file - 8)
 abbrev pub fileMark : List ℕ
 fileMark = 0x54 ∷ 0x52 ∷ 0x45 ∷ 0x45 ∷ []
 
--- the last four bytes
+-- are these the last four bytes?
 unfoldable pub marked : List ℕ → Bool
 marked file = hasBytes file (length file - 4) fileMark
 

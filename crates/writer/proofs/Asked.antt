@@ -1,5 +1,5 @@
--- The writer's questions: which no is the first, as the code asks them (`no-16`, `from-5`), what all answered yes says (`agreed`), and which numbers
--- a refusal has.
+-- The writer's questions: which no is the first, as the code asks them (`no-16`, `from-5`), what all answered yes says (`accepted-write`), and
+-- which numbers a refusal has.
 use Prim.Native.Nat.{ℕ, _+_, _*_, _/_, _%_, _≤_}
 use native.Mathlib.Omega.{arith}
 use mathlib.Core.Path.{_≡_, refl, sym, _∙_}
@@ -66,15 +66,15 @@ module _ (l : List ℤ) (i room place : ℕ) where
       go false = refl
 
   -- all answered yes
-  pub record Agreed : Type 0 where
+  pub record AcceptedWrite : Type 0 where
     pub count : Counted (length l)
     pub writable : Writable (given l) i
     pub within : place + size (length l / 6) ≤ room
     pub short : place + size (length l / 6) ≤ 65536
 
-  pub agreed : firstNo (writerQuestions l i room place) ≡ Yes → Agreed
+  pub accepted-write : firstNo (writerQuestions l i room place) ≡ Yes → AcceptedWrite
   unfolding writerQuestions hasRoom
-  agreed ok =
+  accepted-write ok =
       let first : List Question = (16, counted (length l)) ∷ (5, between 1 4096 i) ∷ [] in
       let last : List Question = (17, hasRoom (length l / 6) room place) ∷ [] in
       let rs = recordsQuestions (map recordOf (given l)) 0 in

@@ -16,7 +16,7 @@ use Rattle.writer.specs.declared.Written.the-variants.{Refused, End}
 use Rattle.writer.proofs.Records.{length-records}
 use Rattle.writer.proofs.Reading.{length-part}
 use Rattle.writer.proofs.Given.{given-length}
-use Rattle.writer.proofs.Asked.{agreed}
+use Rattle.writer.proofs.Asked.{accepted-write}
 
 module _ (l : List ℤ) (i : ℕ) (buffer : List ℕ) (place : ℕ) where
   pub refused : {n : ℕ} → firstNo (writerQuestions l i (length buffer) place) ≡ No n
@@ -47,7 +47,7 @@ module _ (l : List ℤ) (i : ℕ) (buffer : List ℕ) (place : ℕ) where
         let v = trailerBytes (length l / 6) i in
         let e : length u ≡ 12 * (length l / 6) = length-records (given l) ∙ ap (λ (k : ℕ). 12 * k) n in
         let w : length (partBytes (given l) i) ≡ size (length l / 6) = length-part (given l) i ∙ ap size n in
-        let h : place + length (partBytes (given l) i) ≤ length buffer = rw w (agreed l i (length buffer) place ok .within) in
+        let h : place + length (partBytes (given l) i) ≤ length buffer = rw w (accepted-write l i (length buffer) place ok .within) in
         ap (λ (k : ℕ). sets (sets buffer place u) (place + k) v) (sym e) ∙ sets-append u v buffer place
         ∙ ap (λ (k : ℕ). sets buffer place (u ++ trailerBytes k i)) (sym n)
         ∙ sets-eq (partBytes (given l) i) buffer place h

@@ -5,7 +5,7 @@ use native.Mathlib.Nat.{not-suc-le-zero, add-zero, zero-add, add-assoc}
 use native.Mathlib.Numerals.{sub-one}
 use native.Mathlib.Omega.{arith}
 use mathlib.Core.Path.{_≡_, refl, sym, ap, ap₂, _∙_}
-use mathlib.Core.List.{List, [], _∷_, _++_}
+use mathlib.Core.List.{List, [], _∷_, _++_, append-nil}
 use lib.ListN.{length, getD, drop}
 use lib.Seq.{drop-length, getD-append-add}
 use lib.IntN.{ℤ, pos}
@@ -42,16 +42,12 @@ numbers-run l (suc n) at h =
     (ap (λ (j : ℕ). numbers (nodesIn l n (at + 6)) ++ drop j l) e ∙ numbers-run l n (at + 6) (omega arith))
     ∙ sym (runs (pos 0) l at 5 (omega arith))
 
-append-nothing : (m : List ℤ) → m ++ [] ≡ m
-append-nothing [] = refl
-append-nothing (z ∷ m) = ap (λ (k : List ℤ). z ∷ k) (append-nothing m)
-
 pub numbers-given : (l : List ℤ) → length l ≡ 6 * (length l / 6) → numbers (given l) ≡ l
 unfolding given
 numbers-given l h =
     let n = length l / 6 in
     let e : drop (0 + 6 * n) l ≡ [] = ap (λ (j : ℕ). drop j l) (zero-add (6 * n) ∙ sym h) ∙ drop-length l in
-    sym (append-nothing (numbers (nodesIn l n 0))) ∙ ap (λ (m : List ℤ). numbers (nodesIn l n 0) ++ m) (sym e) ∙ numbers-run l n 0 (omega arith)
+    sym (append-nil (numbers (nodesIn l n 0))) ∙ ap (λ (m : List ℤ). numbers (nodesIn l n 0) ++ m) (sym e) ∙ numbers-run l n 0 (omega arith)
 
 -- ---- the nodes of the numbers
 

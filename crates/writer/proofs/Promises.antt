@@ -30,7 +30,7 @@ use Rattle.writer.specs.declared.Written.the-variants.{End}
 use Rattle.writer.proofs.Given.{given-length, numbers-given, given-numbers}
 use Rattle.writer.proofs.Reading.{Writable, length-part, part-accepted, part-nodes}
 use Rattle.writer.proofs.Rewriting.{rewritten, read-writable}
-use Rattle.writer.proofs.Asked.{Agreed, agreed, from-5, refusal-number}
+use Rattle.writer.proofs.Asked.{AcceptedWrite, accepted-write, from-5, refusal-number}
 use Rattle.writer.proofs.Buffer.{refused, answer-end, buffer-written}
 
 -- ---- what was given is read back, and all else is kept
@@ -40,8 +40,8 @@ module _ (l : List ℤ) (i : ℕ) (buffer : List ℕ) (place : ℕ) where
     abbrev end : ℕ
     end = place + size (length l / 6)
 
-    facts : Agreed l i (length buffer) place
-    facts = agreed l i (length buffer) place ok
+    facts : AcceptedWrite l i (length buffer) place
+    facts = accepted-write l i (length buffer) place ok
 
     length-lead : length (take place buffer) ≡ place
     length-lead = length-take-le place buffer (omega (arith, facts .within))

@@ -26,7 +26,7 @@ use Rattle.record.proofs.Ranges.{ready, for-operator}
 use Rattle.part.specs.File.{recordsFrom, recordsQuestions}
 use Rattle.part.proofs.Leading.{records-moved}
 use Rattle.writer.specs.Bytes.{bits16, u16Bytes, i16Bytes, words, recordBytes, recordsBytes}
-use Rattle.writer.specs.Given.{nodeIn, nodesIn, blank, recordOf}
+use Rattle.writer.specs.Given.{nodeIn, nodesIn, othersZero, recordOf}
 use Rattle.writer.specs.Storable.{Storable, AllStorable}
 use Rattle.writer.proofs.Numbers.{u16-back, i16-back}
 use Rattle.writer.proofs.Given.{given-step}
@@ -34,16 +34,16 @@ use Rattle.writer.proofs.Given.{given-step}
 -- ---- what a record's bytes can hold
 
 -- an operator's numbers
-pub record Blank (n : Node) : Type 0 where
+pub record OthersZero (n : Node) : Type 0 where
   pub radius : n .radius ≡ pos 0
   pub x : n .x ≡ pos 0
   pub y : n .y ≡ pos 0
   pub z : n .z ≡ pos 0
   pub weight : n .weight ≡ pos 0
 
-pub blank-facts : (n : Node) → blank n ≡ true → Blank n
-unfolding blank
-blank-facts n e =
+pub others-facts : (n : Node) → othersZero n ≡ true → OthersZero n
+unfolding othersZero
+others-facts n e =
     let r = eqℤ (n .radius) (pos 0) in
     let x = eqℤ (n .x) (pos 0) in
     let y = eqℤ (n .y) (pos 0) in
@@ -69,10 +69,10 @@ from-zero e = record { abs = rw e (omega arith) }
 positive : {k : ℕ} {z : ℤ} → pos 1 ≤ℤ z → z ≤ℤ pos k → (pos (natAbs z) ≡ z) × (natAbs z ≤ k)
 positive l h = (pos-natAbs-nn (≤ℤ-trans (nn-pos 1) l), positive-small l h .1 .abs)
 
-operator-blank : (n : Node) → forOperator n (blank n) ≡ true → isPoint n ≡ false → Blank n
-operator-blank n e p = blank-facts n (for-operator n (blank n) e p)
+operator-zero : (n : Node) → forOperator n (othersZero n) ≡ true → isPoint n ≡ false → OthersZero n
+operator-zero n e p = others-facts n (for-operator n (othersZero n) e p)
 
-pub storable : (n : Node) (held : ℕ) → Ready n held → forOperator n (blank n) ≡ true → Storable n
+pub storable : (n : Node) (held : ℕ) → Ready n held → forOperator n (othersZero n) ≡ true → Storable n
 storable n held r e = go (isPoint n) refl
   where
     go : (t : Bool) → isPoint n ≡ t → Storable n
@@ -92,7 +92,7 @@ storable n held r e = go (isPoint n) refl
         }
     go false p =
         let k = positive (r .kind-low) (r .kind-high) in
-        let b = operator-blank n e p in
+        let b = operator-zero n e p in
         record {
           kind = k .0;
           kind-below = omega (arith, k .1);
@@ -117,21 +117,21 @@ node-back n rest s =
     same-node (s .kind) (ap pos (u16-back (natAbs (n .radius)) (s .radius-below)) ∙ s .radius) (i16-back (n .x) (s .x)) (i16-back (n .y) (s .y))
     (i16-back (n .z) (s .z)) (i16-back (n .weight) (s .weight))
 
-blank-zeros : (n : Node) (rest : List ℕ) → Blank n → zeros (recordBytes n ++ rest) 1 11 ≡ true
+operator-zeros : (n : Node) (rest : List ℕ) → OthersZero n → zeros (recordBytes n ++ rest) 1 11 ≡ true
 unfolding zeros hasBytes recordBytes u16Bytes i16Bytes bits16
-blank-zeros n rest b = rw (b .radius, b .x, b .y, b .z, b .weight)
+operator-zeros n rest b = rw (b .radius, b .x, b .y, b .z, b .weight)
 
 point-zeros : (n : Node) (rest : List ℕ) → zeros (recordBytes n ++ rest) 1 1 ≡ true
 unfolding zeros hasBytes recordBytes
 point-zeros n rest = refl
 
-pub record-back : (n : Node) (rest : List ℕ) → Storable n → forOperator n (blank n) ≡ true → recordAt (recordBytes n ++ rest) 0 ≡ recordOf n
+pub record-back : (n : Node) (rest : List ℕ) → Storable n → forOperator n (othersZero n) ≡ true → recordAt (recordBytes n ++ rest) 0 ≡ recordOf n
 unfolding recordAt zeroBytes recordOf
 record-back n rest s e = rw (node-back n rest s, e) (ap (λ (t : Bool). record { node = n; zeroed = t }) (go (isPoint n) refl))
   where
     go : (t : Bool) → isPoint n ≡ t → zeros (recordBytes n ++ rest) 1 (cond t 1 11) ≡ true
     go true p = point-zeros n rest
-    go false p = blank-zeros n rest (operator-blank n e p)
+    go false p = operator-zeros n rest (operator-zero n e p)
 
 -- ---- as the code stores it
 
@@ -167,10 +167,10 @@ length-records [] = refl
 length-records (n ∷ later) = rw (length-append, length-record n, length-records later) (omega arith)
 
 -- what the questions say of each
-pub node-facts : (n : Node) (held : ℕ) → firstNo (recordQuestions (recordOf n) held) ≡ Yes → Storable n × (forOperator n (blank n) ≡ true)
+pub node-facts : (n : Node) (held : ℕ) → firstNo (recordQuestions (recordOf n) held) ≡ Yes → Storable n × (forOperator n (othersZero n) ≡ true)
 unfolding recordQuestions recordOf
 node-facts n held ok =
-    let e : forOperator n (blank n) ≡ true = all-yes (recordQuestions (recordOf n) held) ok 1 in
+    let e : forOperator n (othersZero n) ≡ true = all-yes (recordQuestions (recordOf n) held) ok 1 in
     (storable n held (ready (recordOf n) held ok) e, e)
 
 pub records-back : (ns : List Node) (held : ℕ) (rest : List ℕ) → firstNo (recordsQuestions (map recordOf ns) held) ≡ Yes

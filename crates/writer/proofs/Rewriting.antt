@@ -22,7 +22,7 @@ use Rattle.part.specs.Accepted.{Trailer}
 use Rattle.part.proofs.Records.{nodes-length}
 use Rattle.part.proofs.Trailer.{accepted-trailer, records-end, count-low, count-high}
 use Rattle.writer.specs.Bytes.{Octets, u16Bytes, u32Bytes, recordBytes, recordsBytes, size, trailerBytes, partBytes}
-use Rattle.writer.specs.Given.{blank, recordOf}
+use Rattle.writer.specs.Given.{othersZero, recordOf}
 use Rattle.writer.proofs.Pieces.{piece, pieces, has-byte, has-piece, u16-split, u16-first, u16-pair, i16-pair, u32-four}
 use Rattle.writer.proofs.Reading.{Writable}
 
@@ -47,9 +47,9 @@ module _ (file : List ℕ) (at : ℕ) (e : recordAt file at .zeroed ≡ true) wh
       go false f = zero-at file at 11 0 f (omega arith)
 
   -- an operator's numbers are zero
-  read-blank : zeros file (at + 1) 11 ≡ true → blank (nodeAt file at) ≡ true
-  unfolding blank nodeAt i16
-  read-blank z =
+  read-zero : zeros file (at + 1) 11 ≡ true → othersZero (nodeAt file at) ≡ true
+  unfolding othersZero nodeAt i16
+  read-zero z =
       rw (
         zero-pair file at 1 z (omega arith),
         zero-pair file at 3 z (omega arith),
@@ -64,9 +64,9 @@ module _ (file : List ℕ) (at : ℕ) (e : recordAt file at .zeroed ≡ true) wh
   read-record =
       ap (λ (t : Bool). record { node = nodeAt file at; zeroed = t }) (go (isPoint (nodeAt file at)) e ∙ sym e)
     where
-      go : (t : Bool) → zeros file (at + 1) (cond t 1 11) ≡ true → cond t true (blank (nodeAt file at)) ≡ true
+      go : (t : Bool) → zeros file (at + 1) (cond t 1 11) ≡ true → cond t true (othersZero (nodeAt file at)) ≡ true
       go true f = refl
-      go false f = read-blank f
+      go false f = read-zero f
 
 zeroed : (r : Record) (held : ℕ) → firstNo (recordQuestions r held) ≡ Yes → r .zeroed ≡ true
 unfolding recordQuestions

@@ -30,9 +30,9 @@ unfoldable pub given : List ℤ → List Node
 given l = nodesIn l (length l / 6) 0
 
 -- are the five numbers after the kind zero?
-unfoldable pub blank : Node → Bool
-blank n = eqℤ (n .radius) (pos 0) && eqℤ (n .x) (pos 0) && eqℤ (n .y) (pos 0) && eqℤ (n .z) (pos 0) && eqℤ (n .weight) (pos 0)
+unfoldable pub othersZero : Node → Bool
+othersZero n = eqℤ (n .radius) (pos 0) && eqℤ (n .x) (pos 0) && eqℤ (n .y) (pos 0) && eqℤ (n .z) (pos 0) && eqℤ (n .weight) (pos 0)
 
 -- a node as the record that it is to be: "an operator's five other numbers being its zero bytes"
 unfoldable pub recordOf : Node → Record
-recordOf n = record { node = n; zeroed = forOperator n (blank n) }
+recordOf n = record { node = n; zeroed = forOperator n (othersZero n) }

@@ -19,7 +19,7 @@ ghost use Rattle.exact.specs.Range.{Small};
 ghost use Rattle.record.specs.Questions.{firstNo, next};
 ghost use Rattle.part.specs.File.{recordsQuestions};
 ghost use Rattle.writer.specs.Bytes.{u16Bytes, bits16, words, recordBytes, recordsBytes, trailerBytes};
-ghost use Rattle.writer.specs.Given.{nodeIn, nodesIn, blank, recordOf};
+ghost use Rattle.writer.specs.Given.{nodeIn, nodesIn, othersZero, recordOf};
 ghost use Rattle.writer.specs.Storable.{Storable, AllStorable};
 ghost use Rattle.writer.specs.Writer.{hasRoom, writerQuestions, writeAnswer, bufferLeft, WriteSays, Returned};
 
@@ -47,8 +47,8 @@ fn node_in(numbers: &[i32], at: usize) -> Node
 }
 
 // Are the five numbers after the kind zero?
-fn is_blank(n: Node) -> bool
-    ensures { λ r. ⌜ r ≡ blank n ⌝ }
+fn others_zero(n: Node) -> bool
+    ensures { λ r. ⌜ r ≡ othersZero n ⌝ }
 {
     let r = n.radius == 0;
     let x = n.x == 0;
@@ -62,7 +62,7 @@ fn is_blank(n: Node) -> bool
 fn record_of(n: Node) -> Record
     ensures { λ r. ⌜ r ≡ recordOf n ⌝ }
 {
-    let zeroed = if is_point(n) { true } else { is_blank(n) };
+    let zeroed = if is_point(n) { true } else { others_zero(n) };
     Record {
         node: n,
         zeroed: zeroed,

@@ -77,21 +77,14 @@ const fn one(
     }
 }
 
-/// What is limited, of one member, in a write.
-const fn given(
-    what: What,
-    question: u64,
-    name: &'static str,
-    range: RangeInclusive<i64>,
-    limits: &'static [[i64; 2]],
-) -> Limited {
-    one(what, question, name, range, limits).asked_by(|call| call == WRITE)
-}
-
 impl Limited {
     const fn members(mut self, members: usize) -> Limited {
         self.members = members;
         self
+    }
+
+    const fn in_a_write(self) -> Limited {
+        self.asked_by(|call| call == WRITE)
     }
 
     const fn asked_by(mut self, asks: fn(u8) -> bool) -> Limited {
@@ -149,18 +142,18 @@ pub const ALL: [Limited; 34] = [
         .asked_by(|call| casting(call) == Some(VIEW)),
     one(What::Float, 15, "the six floats", 0..=0, OF_FLOATS).members(6)
         .asked_by(|call| casting(call) == Some(VIEW)),
-    given(What::GivenCount, 16, "the number count", 6..=3066, &[[6, 0], [3066, 3072]]),
-    given(What::GivenRemainder, 16, "its remainder by six", 0..=0, &[[0, 1], [0, 5]]),
-    given(What::GivenIso, 5, "a write's iso", 1..=4096, &[[1, 0], [4096, 4097], [1, 65_537]]),
-    given(What::GivenKind, 6, "a node's kind", 1..=5, &[[1, 0], [5, 6], [1, 257]]),
-    given(What::GivenZero, 7, "an operator's other numbers", 0..=0, &[[0, 1], [0, -1], [0, 65_536]])
-        .members(5),
-    given(What::GivenRadius, 8, "a point's r", 1..=1024, &[[1, 0], [1024, 1025], [1, 65_537]]),
-    given(What::GivenCentre, 8, "its x, y and z", REACH, OF_GIVEN_REACH).members(3),
-    given(What::GivenWeight, 8, "its w", -4096..=4096, OF_GIVEN_WEIGHT),
-    given(What::End, 17, "the place after the trailer", 24..=65_536, &[[65_536, 65_537]]),
-    given(What::RoomLeft, 17, "the room less that place", 0..=MOST, &[[0, -1]]),
-    given(What::Sum, 17, "that place in 64 bits", 0..=0, &[[0, 1]]),
+    one(What::GivenCount, 16, "the number count", 6..=3066, &[[6, 0], [3066, 3072]]).in_a_write(),
+    one(What::GivenRemainder, 16, "its remainder by six", 0..=0, &[[0, 1], [0, 5]]).in_a_write(),
+    one(What::GivenIso, 5, "a write's iso", 1..=4096, &[[1, 0], [4096, 4097], [1, 65_537]]).in_a_write(),
+    one(What::GivenKind, 6, "a node's kind", 1..=5, &[[1, 0], [5, 6], [1, 257]]).in_a_write(),
+    one(What::GivenZero, 7, "an operator's other numbers", 0..=0, &[[0, 1], [0, -1], [0, 65_536]])
+        .members(5).in_a_write(),
+    one(What::GivenRadius, 8, "a point's r", 1..=1024, &[[1, 0], [1024, 1025], [1, 65_537]]).in_a_write(),
+    one(What::GivenCentre, 8, "its x, y and z", REACH, OF_GIVEN_REACH).members(3).in_a_write(),
+    one(What::GivenWeight, 8, "its w", -4096..=4096, OF_GIVEN_WEIGHT).in_a_write(),
+    one(What::End, 17, "the place after the trailer", 24..=65_536, &[[65_536, 65_537]]).in_a_write(),
+    one(What::RoomLeft, 17, "the room less that place", 0..=MOST, &[[0, -1]]).in_a_write(),
+    one(What::Sum, 17, "that place in 64 bits", 0..=0, &[[0, 1]]).in_a_write(),
 ];
 
 impl What {

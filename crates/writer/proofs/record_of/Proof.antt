@@ -13,4 +13,4 @@ record-of-spec =
     (λ c κs. search needs)
     (λ c κs. search needs)
     (λ c. rw (sym (c .before .is-point .ensures) ∙ c .if1 .taken))
-    (λ c. rw (sym (c .before .before .is-point .ensures) ∙ c .before .if1 .left, c .is-blank .ensures)))
+    (λ c. rw (sym (c .before .before .is-point .ensures) ∙ c .before .if1 .left, c .others-zero .ensures)))

@@ -13,7 +13,7 @@ use Rattle.writer.specs.Bytes.{size, trailerBytes}
 use Rattle.writer.specs.Given.{given}
 use Rattle.writer.specs.Writer.{writerQuestions}
 use Rattle.writer.proofs.Records.{all-storable}
-use Rattle.writer.proofs.Asked.{Agreed, agreed}
+use Rattle.writer.proofs.Asked.{AcceptedWrite, accepted-write}
 use Rattle.writer.proofs.Buffer.{refused, stored-end, stored}
 use Rattle.writer.proofs.Promises.{promised}
 use Rattle.writer.proofs.write.Statement.{statement}
@@ -26,8 +26,10 @@ yes-to-all : (c : tie.After-enum-told)
 yes-to-all c = sym (c .before .before .writer-questions .ensures) ∙ c .enum-told .given .1
 
 facts : (c : tie.After-enum-told)
-    → (let a = c .before .before .before .before .args in Agreed (a .numbers .now) (a .iso) (length (a .buffer .now)) (a .place))
-facts c = let a = c .before .before .before .before .args in agreed (a .numbers .now) (a .iso) (length (a .buffer .now)) (a .place) (yes-to-all c)
+    → (let a = c .before .before .before .before .args in AcceptedWrite (a .numbers .now) (a .iso) (length (a .buffer .now)) (a .place))
+facts c =
+    let a = c .before .before .before .before .args in
+    accepted-write (a .numbers .now) (a .iso) (length (a .buffer .now)) (a .place) (yes-to-all c)
 
 -- where the trailer ends
 end : (c : tie.After-enum-told)

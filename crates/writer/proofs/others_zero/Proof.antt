@@ -8,15 +8,15 @@ use mir.Val.{SFits, ofZ}
 use borrow.Author.Needs.{needs}
 use Rattle.exact.specs.Range.{eqℤ}
 use Rattle.exact.proofs.Machine.{fit-u, bits-eq}
-use Rattle.writer.specs.Given.{blank}
-use Rattle.writer.proofs.is_blank.Statement.{statement}
-use Rattle.writer.proofs.is_blank.Tie as tie
+use Rattle.writer.specs.Given.{othersZero}
+use Rattle.writer.proofs.others_zero.Statement.{statement}
+use Rattle.writer.proofs.others_zero.Tie as tie
 
 is-zero : {z : ℤ} → SFits w32 z → eqb (ofZ w32 z) 0 ≡ eqℤ z (pos 0)
 is-zero f = bits-eq f (fit-u (le-refl 0) tt)
 
 returns : tie.Need-returns
-unfolding blank
+unfolding othersZero
 returns c =
     let n = c .before .before .before .before .before .before .before .before .before .before .before .before .before .before .args .n in
     let r : SFits w32 (n .radius) = search needs in
@@ -29,5 +29,5 @@ returns c =
     let upToZ = c .before .both3 .ensures ∙ ap₂ _&&_ upToY (is-zero z) in
     c .both4 .ensures ∙ ap₂ _&&_ upToZ (is-zero w)
 
-pub is-blank-spec : {M : Type 1} → statement M
-is-blank-spec = tie.close (tie.spec (λ c κs. search needs) (λ c κs. search needs) (λ c κs. search needs) (λ c κs. search needs) returns)
+pub others-zero-spec : {M : Type 1} → statement M
+others-zero-spec = tie.close (tie.spec (λ c κs. search needs) (λ c κs. search needs) (λ c κs. search needs) (λ c κs. search needs) returns)
