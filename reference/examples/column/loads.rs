@@ -12,6 +12,11 @@ pub type ColumnCall = fn(&[u8], &Ray, &mut [u8]) -> u32;
 /// A call on a file as a whole.
 pub type FileCall = fn(&[u8]);
 
+/// A column's bytes. They align the stack at a call, so that clearing an array
+/// there takes the same instructions in every run.
+#[repr(align(4096))]
+struct Aligned([u8; 128]);
+
 /// A part and the rays of its columns.
 pub struct Load {
     pub name: String,
@@ -32,10 +37,10 @@ impl Load {
 
     /// The column on a ray: the probes, or samples, and the bytes.
     pub fn column(&self, ray: &Ray, call: ColumnCall) -> (u32, [u8; 128]) {
-        let mut column = [0; 128];
-        let number = call(black_box(&self.file), ray, &mut column);
+        let mut column = Aligned([0xa5; 128]);
+        let number = call(black_box(&self.file), ray, &mut column.0);
         let probes = number.checked_sub(65_536).expect("an accepted ray");
-        (probes, black_box(column))
+        (probes, black_box(column.0))
     }
 
     /// All columns once; answers the probes, or samples.
@@ -174,9 +179,50 @@ pub fn struts() -> Vec<Load> {
     vec![Load::new("strut".to_string(), &part, rays)]
 }
 
+/// How many points of a part are far, and where they lie: beside the ray, so
+/// that a large span holds the place nearest to them, or beyond its end.
+const FAR: [(usize, &str, [i16; 3]); 5] = [
+    (0, "far", BESIDE),
+    (64, "beside", BESIDE),
+    (255, "beside", BESIDE),
+    (64, "beyond", BEYOND),
+    (255, "beyond", BEYOND),
+];
+const BESIDE: [i16; 3] = [725, 1000, 0];
+const BEYOND: [i16; 3] = [2000, 0, 0];
+
+/// One near point and the far ones, summed, on a ray along the x axis. The
+/// first load has no far point.
+fn with_far(name: &str, near: [i16; 3], from: i32, to: i32) -> Vec<Load> {
+    let load = |(n, side, far)| {
+        let file = FileBuilder::new(1).point(1024, near, 4);
+        let file = (0..n).fold(file, |file, _| file.point(300, far, 4).sum());
+        let part = read(&file.build()).expect("a part");
+        on_axis(format!("{name}, {n} {side}"), &part, from, to)
+    };
+    FAR.map(load).into()
+}
+
+/// Far points on two rays. The first goes across the near point's surface: one
+/// tick is crossing, and the foot of the points beside lies in it. The second
+/// goes along the surface: a fifth of its ticks are crossing.
+pub fn far() -> [Vec<Load>; 2] {
+    [
+        with_far("across", [0; 3], 0, 1500),
+        with_far("along", [724, 512, 512], 704, 744),
+    ]
+}
+
+/// All loads.
+pub fn all() -> Vec<Load> {
+    let [across, along] = far();
+    let loads = [parts(), lattices(), cancelled(), operators(), struts()];
+    let loads = loads.into_iter().chain([across, along]);
+    loads.flatten().collect()
+}
+
 /// The load of this name.
 pub fn named(name: &str) -> Load {
-    let loads = [parts(), lattices(), cancelled(), operators()];
-    let load = loads.into_iter().flatten().find(|load| load.name == name);
+    let load = all().into_iter().find(|load| load.name == name);
     load.expect("the name of a load")
 }

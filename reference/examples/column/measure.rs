@@ -19,15 +19,22 @@ pub fn counts() -> bool {
 /// The instructions in the call of this name for a column of a load, by this
 /// program run again under callgrind. `None` if valgrind does not run.
 pub fn instructions(load: &Load, call: &str) -> Option<f64> {
+    instructions_by(load, call, &[])
+}
+
+/// The same, with further arguments for the program.
+pub fn instructions_by(load: &Load, call: &str, arguments: &[&str]) -> Option<f64> {
     let output = Command::new("valgrind")
         .env("GLIBC_TUNABLES", VECTOR_MEMSET)
         .args(["--tool=callgrind", "--callgrind-out-file=/dev/null"])
         .arg(format!("--toggle-collect={call}"))
         .arg(env::current_exe().ok()?)
         .args([&load.name, call])
+        .args(arguments)
         .output()
         .ok()?;
     let text = String::from_utf8_lossy(&output.stderr);
+    assert!(output.status.success(), "{text}");
     let line = text.lines().find(|line| line.contains("Collected"))?;
     let all: f64 = line.split_whitespace().last()?.parse().ok()?;
     Some(all / load.rays.len() as f64)
