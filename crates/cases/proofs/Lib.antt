@@ -2,5 +2,6 @@ pub mod Files
 pub mod Writing
 pub mod Rays
 pub mod Overlaps
+pub mod Grazes
 pub mod Floats
 pub mod Refuted

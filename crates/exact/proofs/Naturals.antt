@@ -3,8 +3,8 @@
 -- `pos-inj (ring 2 (λ a b. a ⊗ (b ⊕ b) ≔ # 2 ⊗ a ⊗ b) tt (pos a) (pos b)) : a * (b + b) ≡ 2 * a * b`.
 use mathlib.Core.Path.{_≡_, sym, _∙_, ap, ap₂}
 use mathlib.Core.Logic.{_⊎_, inl, inr}
-use Prim.Native.Nat.{ℕ, zero, suc, _+_, _*_, _-_, _/_, _%_, _^_, _≤_}
-use native.Mathlib.Nat.{mul-comm, mul-sub, mul-right-comm, mul-mul-mul-comm, one-mul, add-zero, div-add-mod', pow-zero, pow-suc}
+use Prim.Native.Nat.{ℕ, zero, suc, _+_, _*_, _-_, _/_, _%_, _^_, _≤_, _<_}
+use native.Mathlib.Nat.{mul-comm, mul-sub, mul-right-comm, mul-mul-mul-comm, one-mul, zero-mul, add-zero, div-add-mod', pow-zero, pow-suc}
 use native.Mathlib.Decide.{decLe}
 use native.Mathlib.Omega.{arith}
 
@@ -13,6 +13,11 @@ pub ≤-total : (x y : ℕ) → (x ≤ y) ⊎ (y ≤ x)
 
 pub sub-mul : (x y k : ℕ) → (x - y) * k ≡ x * k - y * k
 sub-mul x y k = mul-comm (x - y) k ∙ mul-sub k x y ∙ ap₂ _-_ (mul-comm k x) (mul-comm k y)
+
+-- a product that is not 0 has no factor 0
+pub factor-pos : {x : ℕ} (n k : ℕ) → 0 < x → x ≤ n * k → 0 < n
+factor-pos zero k h l = absurd (omega (arith, h, l, zero-mul k))
+factor-pos (suc n) k h l = omega arith
 
 -- clamped differences of fractions: from D/t ≤ E/s, the difference (K − E/s)⁺ is at most (K − D/t)⁺, cleared of denominators
 pub clamp : (K s t D E : ℕ) → D * s ≤ E * t → (K * s - E) * t ≤ (K * t - D) * s

@@ -1,11 +1,15 @@
 -- Quotients rounded down (`x / b`) and up (`ceil x b`): what they bound, and that they keep the order of the fractions.
 -- `floor-mono 65536 a b c d hb hd h : 65536 * a / b ≤ 65536 * c / d`, from `h : a * d ≤ c * b`, which says a/b ≤ c/d.
-use mathlib.Core.Path.{_≡_}
+use mathlib.Core.Path.{_≡_, sym, _∙_}
 use Prim.Native.Nat.{ℕ, suc, _+_, _*_, _-_, _/_, _≤_, _<_}
 use native.Mathlib.Nat.{le-trans, le-of-eq, suc-mul, mul-assoc, mul-right-comm, mul-le-mul-left, mul-le-mul-right, le-of-mul-le-mul-right}
 use native.Mathlib.Nat.{div-mul-le-self, le-div-iff-mul-le, div-lt-iff-lt-mul, lt-div-mul-add}
+use native.Mathlib.Decide.{decLt}
 use native.Mathlib.Omega.{arith}
+use borrow.Author.Tests.{lt-ltb, le-ltb}
+use lib.Dec.{ltb}
 use Rattle.exact.specs.Rounding.{ceil}
+use Rattle.exact.proofs.Naturals.{factor-pos}
 
 -- x ≤ ⌈x/b⌉ b, and ⌈x/b⌉ is the least such
 pub le-ceil : (x b : ℕ) → 0 < b → x ≤ ceil x b * b
@@ -18,6 +22,13 @@ ceil-least x b q h l =
     let e : suc q * b ≡ q * b + b = suc-mul q b in
     let k : (x + (b - 1)) / b < suc q = div-lt-iff-lt-mul h .1 (omega arith) in
     omega arith
+
+-- rounded up, only 0 is 0
+pub ceil-test : (x b : ℕ) → 0 < b → ltb 0 (ceil x b) ≡ ltb 0 x
+ceil-test x b h = elim (decLt 0 x) [
+  | yes k ↦ lt-ltb 0 (ceil x b) (factor-pos (ceil x b) b k (le-ceil x b h)) ∙ sym (lt-ltb 0 x k)
+  | no n ↦ le-ltb 0 (ceil x b) (ceil-least x b 0 h (omega (arith, n))) ∙ sym (le-ltb 0 x (omega (arith, n)))
+]
 
 -- rounding moves a quotient by less than 1, down and up
 pub floor-within : (x b : ℕ) → 0 < b → x ≤ x / b * b + b

@@ -13,6 +13,7 @@ use Rattle.record.specs.declared.Node.{Node}
 use Rattle.record.specs.Ranges.{PointRanges}
 use Rattle.field.specs.declared.Ray.{Ray}
 use Rattle.field.specs.declared.Offset.{Offset}
+use Rattle.field.specs.declared.Prepared.{Prepared}
 use Rattle.field.specs.Ray.{inner, radius, toStart, direction, fromCentre, squaredDistance}
 use Rattle.field.specs.Bounds.{raySquare, prepare, NonNegative, distanceAt, footDistance}
 
@@ -21,6 +22,22 @@ inner-nn u = nn-square3 (u .x) (u .y) (u .z)
 
 pub radius-pos : {p : Node} → PointRanges p → 1 ≤ radius p
 radius-pos h = positive-small (h .radius-low) (h .radius-high) .0
+
+-- ---- of any numbers whose squared distances are not negative
+
+module _ {a : ℤ} (p : Prepared) (nn : NonNegative (p .e) (p .m) a) where
+  pub square-is : pos (natAbs a) ≡ a
+  square-is = pos-natAbs-nn (nn .a-nn)
+
+  pub at-is : (n d : ℕ) → pos (distanceAt a p n d) ≡ dist (p .e) (p .m) (pos (natAbs a)) (pos n) (pos d)
+  unfolding distanceAt
+  at-is n d = pos-natAbs-nn (nn .dist-nn n d) ∙ ap (λ (z : ℤ). dist (p .e) (p .m) z (pos n) (pos d)) (sym square-is)
+
+  pub foot-is : pos (footDistance a p) ≡ p .e *ℤ pos (natAbs a) -ℤ p .m *ℤ p .m
+  unfolding footDistance
+  foot-is = pos-natAbs-nn (nn .foot-nn) ∙ ap (λ (z : ℤ). p .e *ℤ z -ℤ p .m *ℤ p .m) (sym square-is)
+
+-- ---- of a ray and a point
 
 module _ (ray : Ray) (p : Node) where
   abbrev e : ℤ
@@ -59,10 +76,3 @@ module _ (ray : Ray) (p : Node) where
   pub squared-sum : (n d : ℕ) → pos (squaredDistance ray p n d) ≡ inner (fromCentre ray p n d) (fromCentre ray p n d)
   unfolding squaredDistance
   squared-sum n d = pos-natAbs-nn (inner-nn (fromCentre ray p n d))
-
-  pub squared-is : (n d : ℕ) → pos (squaredDistance ray p n d) ≡ dist e m a (pos n) (pos d)
-  squared-is n d = squared-sum n d ∙ sym (squares n d)
-
-  pub foot-is : pos (footDistance a (prepare ray p)) ≡ e *ℤ a -ℤ m *ℤ m
-  unfolding footDistance
-  foot-is = pos-natAbs-nn (nonneg .foot-nn)

@@ -8,7 +8,6 @@ use lib.IntN.{ℤ, pos, natAbs, _-ℤ_, _*ℤ_}
 use Rattle.exact.specs.Distance.{dist}
 use Rattle.exact.specs.Fraction.{_≼_}
 use Rattle.exact.proofs.Order.{pos-mono}
-use Rattle.exact.proofs.Absolute.{pos-natAbs-nn}
 use Rattle.exact.proofs.Naturals.{clamp}
 use Rattle.record.specs.declared.Node.{Node}
 use Rattle.field.specs.declared.Ray.{Ray}
@@ -17,7 +16,7 @@ use Rattle.field.specs.Ray.{radius, squaredDistance, Ordered, Place}
 use Rattle.field.specs.Kernel.{uNum, u}
 use Rattle.field.specs.Bounds.{raySquare, prepare, footInside, footDistance, lowQ, highQ, qlo, qhi}
 use Rattle.field.specs.Extremes.{uAt, Extremes}
-use Rattle.field.proofs.Distances.{nonneg, distance-is, squared-is, foot-is}
+use Rattle.field.proofs.Distances.{nonneg, distance-is, square-is, at-is, foot-is}
 use Rattle.field.proofs.Nearest.{sq, Farthest, Nearest, farthest, nearest}
 
 module _ (ray : Ray) (p : Node) (s : Span) (hr : 1 ≤ radius p) (o : Ordered s) where
@@ -33,14 +32,11 @@ module _ (ray : Ray) (p : Node) (s : Span) (hr : 1 ≤ radius p) (o : Ordered s)
   abbrev N : ℕ
   N = footDistance (raySquare ray) (prepare ray p)
 
-  A-is : pos A ≡ raySquare ray
-  A-is = pos-natAbs-nn (nonneg ray p .a-nn)
-
   D-is : (n d : ℕ) → pos (D n d) ≡ dist (prepare ray p .e) (prepare ray p .m) (pos A) (pos n) (pos d)
-  D-is n d = squared-is ray p n d ∙ ap (λ (z : ℤ). dist (prepare ray p .e) (prepare ray p .m) z (pos n) (pos d)) (sym A-is)
+  D-is n d = ap pos (sym (distance-is ray p n d)) ∙ at-is (prepare ray p) (nonneg ray p) n d
 
   N-is : pos N ≡ prepare ray p .e *ℤ pos A -ℤ prepare ray p .m *ℤ prepare ray p .m
-  N-is = foot-is ray p ∙ ap (λ (z : ℤ). prepare ray p .e *ℤ z -ℤ prepare ray p .m *ℤ prepare ray p .m) (sym A-is)
+  N-is = foot-is (prepare ray p) (nonneg ray p)
 
   far : Farthest D s
   far = farthest (prepare ray p) A N D D-is N-is s o
@@ -71,7 +67,7 @@ module _ (ray : Ray) (p : Node) (s : Span) (hr : 1 ≤ radius p) (o : Ordered s)
       ap₂ (λ (x y : ℕ). cond (footInside (raySquare ray) (prepare ray p) s) (highQ (R * A) N) (highQ (R * (s .ticks * s .ticks)) (min x y)))
       (distance-is ray p (s .from) (s .ticks)) (distance-is ray p (s .to) (s .ticks))
       ∙ ap (λ (z : ℤ). cond (footInside z (prepare ray p) s) (highQ (R * A) N)
-      (highQ (R * (s .ticks * s .ticks)) (min (D (s .from) (s .ticks)) (D (s .to) (s .ticks))))) (sym A-is)
+      (highQ (R * (s .ticks * s .ticks)) (min (D (s .from) (s .ticks)) (D (s .to) (s .ticks))))) (sym (square-is (prepare ray p) (nonneg ray p)))
 
   pub extremes : Extremes ray p s
   extremes = record {

@@ -3,6 +3,7 @@ pub mod Distances
 pub mod Nearest
 pub mod Extremes
 pub mod Between
+pub mod Reach
 pub mod Width
 pub mod Kernels
 pub mod Points

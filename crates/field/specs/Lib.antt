@@ -5,6 +5,7 @@ pub mod Solid
 pub mod Field
 pub mod Bounds
 pub mod Extremes
+pub mod Reach
 pub mod Lawful
 pub mod Tolerance
 pub mod Marks
