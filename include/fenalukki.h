@@ -155,9 +155,9 @@
  *   A probe is one working out of the field's bounds over a stretch of ticks.
  *   The time of a cast goes by its probes times the part's records. The most
  *   are 2,047 probes of 511 records. A column of that size, of 256 points, 3 sums
- *   and 252 cuts that leave every tick undecided, takes 62 million instructions
- *   by callgrind, which is 59 for a probe and record; no call tried took more.
- *   With 255 sums it takes 58 million. A smaller budget makes fewer probes and
+ *   and 252 cuts that leave every tick undecided, takes 70 million instructions
+ *   by callgrind, which is 67 for a probe and record; no call tried took more.
+ *   With 255 sums it takes 66 million. A smaller budget makes fewer probes and
  *   so bounds a call's time. docs/BENCHMARKS.md has the figures of other parts.
  *
  * Platform
