@@ -128,12 +128,13 @@ fn assert_paired(host: &mut Host, graze: &Graze, (kind, sign, order): Join) {
 }
 
 /// The sum of another point and the ball as an operand. The ball changes the cast
-/// exactly if the ray comes within; a skim of negative weight may change nothing.
+/// exactly if the ray comes within; along a chord one of negative weight may change
+/// nothing.
 fn assert_joined(host: &mut Host, graze: &Graze, (kind, sign, order): Join) {
     let part = joined(graze, sign, kind, order);
     let [with, rest] = with_and_without(host, &part, graze);
     let changed = with != rest;
-    let may_not = graze.class == Class::Skim && sign == Sign::Minus;
+    let may_not = graze.class == Class::Chord && sign == Sign::Minus;
     let right = changed == graze.within || may_not && !changed;
     assert!(right, "{graze:?} {kind:?} {sign:?} {order:?}");
     place_bounds(&part.build(), graze.near).expect("an accepted place");
@@ -142,7 +143,7 @@ fn assert_joined(host: &mut Host, graze: &Graze, (kind, sign, order): Join) {
 /// Some grazes of each class, of large balls and of small ones.
 fn some() -> impl Iterator<Item = Graze> {
     let one_in = |graze: &Graze| match graze.class {
-        Class::Skim => 9,
+        Class::Chord => 9,
         Class::Moved if graze.r > 65 => 59,
         _ => 7,
     };

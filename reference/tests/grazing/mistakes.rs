@@ -6,7 +6,7 @@
 use crate::guards::in_guards;
 use crate::parts::{added, without, Sign};
 use crate::places::{ball, small_balls};
-use crate::rays::{grazes, inner, plus, Class, Graze, CENTRE, SKIMS};
+use crate::rays::{grazes, inner, plus, Class, Graze, CENTRE, CHORDS};
 use reference::cast::{full_cast_by, FullCast};
 use reference::field::{tick_bounds, Bounds, ExactField, Ray, SpanBounds};
 use reference::fraction::Fraction;
@@ -143,11 +143,11 @@ fn differs(graze: &Graze) -> [bool; TESTS.len()] {
     CASTS.map(|by| cast(by) != exact)
 }
 
-/// Every seventh graze, and each skim: the casts that differ after each test.
+/// Every seventh graze, and each chord: the casts that differ after each test.
 #[test]
 fn grazes_find_each_mistake_that_changes_a_cast() {
     let all = grazes().into_iter().enumerate();
-    let some = all.filter(|(i, graze)| i % 7 == 0 || graze.class == Class::Skim);
+    let some = all.filter(|(i, graze)| i % 7 == 0 || graze.class == Class::Chord);
     let mut found = [0; TESTS.len()];
     let mut within = 0;
     for (_, graze) in some {
@@ -160,8 +160,8 @@ fn grazes_find_each_mistake_that_changes_a_cast() {
     let [right, ends_alone, foot_anywhere, just_inside_is_far, in_reach_is_far, line] = found;
     assert_eq!([right, foot_anywhere, line], [0; 3]);
     assert!(ends_alone > 100, "{found:?}");
-    // the shortest skim of each line, in both directions
-    assert_eq!(just_inside_is_far, 2 * SKIMS.len());
+    // the shortest ray of each line, in both directions
+    assert_eq!(just_inside_is_far, 2 * CHORDS.len());
     assert!(in_reach_is_far == within && within > 200, "{found:?}");
 }
 

@@ -8,14 +8,14 @@
 //!   ray passes its centre at a squared distance between 16 and 25, so that its
 //!   greatest q is 65,535 and its high 2^32 - 131,071. A ball whose qhi is 6 or
 //!   more adds 4,096 x 36 = 147,456 or more, and the span is not empty. One step
-//!   within r 1,024 u is 2047/1024² and qhi 128. Of a skim qhi may be 1, and 33
+//!   within r 1,024 u is 2047/1024² and qhi 128. Of a chord qhi may be 1, and 33
 //!   balls at one place add 33 x 4,096 = 135,168.
 //! - A negative ball: to a point of r 1,024 and w 2 whose centre is 540 steps from
 //!   the graze. There it has 2 (1 - 540²/1024²)² = 1.042 and is inside. The ball
 //!   takes away 4,096 u²: more than 0.043 from u = 0.0033 on, four balls from
 //!   u = 0.0017 on, and 40 from u = 0.00052 on. One step within r 65 u is 0.03, and
 //!   0.00195 within r 1,024; the least u of a moved ray that comes within is
-//!   0.00055, with r 1,022. Most skims change nothing so.
+//!   0.00055, with r 1,022. Most chords change nothing so.
 
 use crate::rays::{Class, Graze, Vector};
 use reference::part::{FileBuilder, Kind, Node, Part};
@@ -63,7 +63,7 @@ pub fn alone(graze: &Graze, sign: Sign) -> FileBuilder {
 /// How many balls at one place are added, so that a small u moves a mark.
 fn copies(graze: &Graze, sign: Sign) -> usize {
     match (graze.class, sign) {
-        (Class::Skim, Sign::Plus) => 33,
+        (Class::Chord, Sign::Plus) => 33,
         (Class::Moved, Sign::Minus) if graze.r > 65 => 40,
         (_, Sign::Minus) if graze.r > 65 => 4,
         _ => 1,

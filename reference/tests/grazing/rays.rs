@@ -8,7 +8,7 @@
 //!   exactly r - 1, r or r + 1.
 //! - Moved: an oblique tangent at exactly r, moved one step in or out along an
 //!   axis.
-//! - Skims: the line goes through a place at a distance of exactly r and is within
+//! - Chords: the line goes through a place at a distance of exactly r and is within
 //!   the ball for less than two steps from there. At the foot of the shortest rays
 //!   r² exceeds d² by 1/|B - A|², the least by which it can.
 
@@ -70,7 +70,7 @@ const FEET: [(i32, i32); 7] = [
 /// whose inner product with it is -1. At s directions from the place r² exceeds d²
 /// by 2s - a s², a being the direction's square: by 1/a at the foot, s = 1/a, and
 /// not from s = 2/a on.
-pub const SKIMS: [(i32, Vector, Vector); 9] = [
+pub const CHORDS: [(i32, Vector, Vector); 9] = [
     (1, [1, 0, 0], [-1, 3, 5]),
     (1, [0, -1, 0], [900, 1, -700]),
     (3, [2, 1, -2], [1, -1, 1]),
@@ -94,7 +94,7 @@ pub enum Class {
     Tangent,
     End,
     Moved,
-    Skim,
+    Chord,
 }
 
 /// A ball and a ray.
@@ -236,14 +236,14 @@ fn moved(r: i32) -> impl Iterator<Item = Graze> {
 }
 
 /// A ray that does not go from the place in the direction has no place within.
-fn skims() -> impl Iterator<Item = Graze> {
-    SKIMS.into_iter().flat_map(|(r, place, along)| {
+fn chords() -> impl Iterator<Item = Graze> {
+    CHORDS.into_iter().flat_map(|(r, place, along)| {
         assert_eq!([inner(place, place), inner(place, along)], [r * r, -1]);
         let near = plus(CENTRE, place);
         let beyond = move |&end: &Vector| inner(end, along) > inner(near, along);
         let both = rays_about(near, along).flat_map(both_ways);
         both.map(move |ray| Graze {
-            class: Class::Skim,
+            class: Class::Chord,
             centre: CENTRE,
             r,
             ray,
@@ -262,5 +262,5 @@ pub fn grazes() -> Vec<Graze> {
     let whole = distances.flat_map(|(r, d)| tangents(r, d).chain(ends(r, d)));
     let all = whole.chain(MOVED_RADII.into_iter().flat_map(moved));
     let new = |graze: &Graze| listed.insert((graze.r, graze.ray.a, graze.ray.b));
-    all.chain(skims()).filter(new).collect()
+    all.chain(chords()).filter(new).collect()
 }
