@@ -4,4 +4,5 @@ pub mod Rays
 pub mod Overlaps
 pub mod Grazes
 pub mod Floats
+pub mod Totals
 pub mod Refuted

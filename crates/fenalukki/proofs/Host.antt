@@ -23,14 +23,16 @@ use Rattle.view.specs.declared.ViewRay.{ViewRay}
 use Rattle.view.specs.Call.{viewOf, viewerTicks, viewerFirstHit}
 use Rattle.view.specs.Demands.{ViewDemands}
 use Rattle.tally.specs.declared.Tally.{Tally}
+use Rattle.tally.specs.declared.Saved.{Saved}
 use Rattle.tally.specs.Counts.{castTally, hitTally, columnTally, viewTally}
+use Rattle.tally.specs.Saved.{readSaved, SavedSays}
 use Rattle.tally.proofs.Counts.{view-tally}
 use Rattle.nodes.specs.Numbers.{loaded}
 use Rattle.writer.specs.declared.Written.{Written}
 use Rattle.writer.specs.Writer.{writeAnswer, bufferLeft, WriteSays, Returned}
-use Rattle.numbers.specs.Numbers.{checkNumber, boundsNumber, boundsLeft, writeNumber, lentAfter}
-use Rattle.numbers.proofs.Numbers.{check-told, bounds-told, write-told}
-use Rattle.fenalukki.specs.Host.{HostCast, HostHit, HostColumn, HostCheck, HostBounds, HostView, HostRead, HostWrite}
+use Rattle.numbers.specs.Numbers.{checkNumber, boundsNumber, boundsLeft, writeNumber, lentAfter, savedNumber, savedLeft}
+use Rattle.numbers.proofs.Numbers.{check-told, bounds-told, write-told, saved-told}
+use Rattle.fenalukki.specs.Host.{HostCast, HostHit, HostColumn, HostCheck, HostBounds, HostView, HostRead, HostWrite, HostRestore}
 
 -- what is left in the lent totals, of an answer a that is b
 left-is : {A : Type 0} (tallyOf : A → Tally) (totals : List ℕ) {a b : A} {tally : Tally} {left : List ℕ}
@@ -116,4 +118,13 @@ host-write l iso lent place a {number} {after} (answer, (bytes, (says, returned)
   told = rw is (write-told l iso lent place after a says);
   says = rw (← answer) says;
   returned = rw (← answer) returned;
+}
+
+pub host-restore : (saved : List ℕ) (a : Saved) (lent : List ℕ) {number : ℕ} {after : List ℕ}
+    → (a ≡ readSaved saved) × SavedSays saved a → after ≡ savedLeft a lent → number ≡ savedNumber a → HostRestore saved lent number after
+host-restore saved a lent (answer, says) left is = record {
+  number-is = is ∙ ap savedNumber answer;
+  totals = left ∙ rw answer;
+  told = rw is (saved-told saved a says);
+  says = rw (← answer) says;
 }

@@ -1,5 +1,5 @@
--- What a host in C gets from each call (document 01, "Calls"): its number, what was lent afterwards, and all that the call promises of the answer
--- that the number stands for, demands 2 and 3 included.
+-- What a host in C gets from each call (document 01, "Calls"; document 02, P2 and P4): its number, what was lent afterwards, and all that the call
+-- promises of the answer that the number stands for, demands 2 and 3 included.
 use mathlib.Core.Path.{_≡_}
 use mathlib.Core.List.{List}
 use Prim.Native.Nat.{ℕ}
@@ -20,7 +20,8 @@ use Rattle.view.specs.Call.{viewerTicks, viewerFirstHit}
 use Rattle.view.specs.Demands.{ViewDemands}
 use Rattle.nodes.specs.Numbers.{loaded}
 use Rattle.writer.specs.Writer.{writeAnswer, bufferLeft, WriteSays, Returned}
-use Rattle.numbers.specs.Numbers.{Told, checkNumber, boundsNumber, boundsLeft, writeNumber}
+use Rattle.tally.specs.Saved.{readSaved, SavedSays}
+use Rattle.numbers.specs.Numbers.{Told, checkNumber, boundsNumber, boundsLeft, writeNumber, savedNumber, savedLeft}
 
 -- a full cast's number, and the bytes afterwards in the buffer that was lent
 pub record HostCast (file : List ℕ) (ray : Ray) (budget : ℕ) (lent : List ℕ) (number : ℕ) (after : List ℕ) : Type 0 where
@@ -71,3 +72,10 @@ pub record HostWrite (numbers : List ℤ) (iso : ℕ) (lent : List ℕ) (place n
   pub told : Told 17 number
   pub says : WriteSays numbers iso lent place (writeAnswer numbers iso (length lent) place) after
   pub returned : Returned numbers iso lent place (writeAnswer numbers iso (length lent) place) after
+
+-- a saved record's number, and the totals afterwards that were lent
+pub record HostRestore (saved lent : List ℕ) (number : ℕ) (after : List ℕ) : Type 0 where
+  pub number-is : number ≡ savedNumber (readSaved saved)
+  pub totals : after ≡ savedLeft (readSaved saved) lent
+  pub told : Told 18 number
+  pub says : SavedSays saved (readSaved saved)

@@ -1,5 +1,5 @@
-// The entries for hosts in C: functions on a part file's bytes, numbers and lent buffers (document 01, "Calls"). The slicing host's
-// three come first, which are lent no totals. include/fenalukki.h is what a C program includes.
+// The entries for hosts in C: functions on a part file's bytes, numbers and lent buffers (document 01, "Calls"; document 02, P2 and
+// P4). The slicing host's three come first, which are lent no totals. include/fenalukki.h is what a C program includes.
 
 use bounds::place_bounds;
 use cast::column;
@@ -13,13 +13,16 @@ use numbers::column_number;
 use numbers::count_lent;
 use numbers::hit_number;
 use numbers::place_at;
+use numbers::put_saved;
 use numbers::ray_of;
+use numbers::saved_number;
 use numbers::view_ray_of;
 use numbers::write_number;
 use part::check;
 use tally::cast_tally;
 use tally::column_tally;
 use tally::hit_tally;
+use tally::read_saved;
 use view::viewer_ticks;
 use writer::write;
 ghost use mathlib.Core.Path.{_≡_};
@@ -29,6 +32,7 @@ ghost use Rattle.view.specs.Call.{viewerFirstHit};
 ghost use Rattle.tally.specs.Counts.{castTally, hitTally, columnTally, viewTally};
 ghost use Rattle.numbers.specs.Numbers.{placeAt, rayOf, viewRayOf, lentAfter};
 ghost use Rattle.fenalukki.specs.Host.{HostCast, HostHit, HostColumn, HostCheck, HostBounds, HostView, HostRead, HostWrite};
+ghost use Rattle.fenalukki.specs.Host.{HostRestore};
 
 // Full cast: 1,024 mark bytes, as far as the budget goes.
 #[no_mangle]
@@ -154,7 +158,7 @@ pub extern "C" fn fenalukki_full_cast_counted(
     bz: i32,
     budget: u32,
     marks: &mut [u8],
-    totals: &mut [u32; 3],
+    totals: &mut [u64; 3],
 ) -> u32
     ensures called { λ r. ⌜ HostCast (now (file .entry)) (rayOf ax ay az bx by bz) budget (now (marks .entry)) r (now (marks .exit)) ⌝ }
     ensures counted { λ _. ⌜ now (totals .exit) ≡ lentAfter
@@ -175,7 +179,7 @@ pub extern "C" fn fenalukki_first_hit_counted(
     by: i32,
     bz: i32,
     budget: u32,
-    totals: &mut [u32; 3],
+    totals: &mut [u64; 3],
 ) -> u64
     ensures called { λ r. ⌜ HostHit (now (file .entry)) (rayOf ax ay az bx by bz) budget r ⌝ }
     ensures counted { λ _. ⌜ now (totals .exit) ≡ lentAfter
@@ -196,7 +200,7 @@ pub extern "C" fn fenalukki_column_counted(
     by: i32,
     bz: i32,
     bits: &mut [u8],
-    totals: &mut [u32; 3],
+    totals: &mut [u64; 3],
 ) -> u32
     ensures called { λ r. ⌜ HostColumn (now (file .entry)) (rayOf ax ay az bx by bz) (now (bits .entry)) r (now (bits .exit)) ⌝ }
     ensures counted { λ _. ⌜ now (totals .exit) ≡ lentAfter
@@ -217,7 +221,7 @@ pub extern "C" fn fenalukki_viewer_first_hit_counted(
     by: f32,
     bz: f32,
     budget: u32,
-    totals: &mut [u32; 3],
+    totals: &mut [u64; 3],
 ) -> u64
     ensures called { λ r. ⌜ HostView (now (file .entry)) (viewRayOf ax ay az bx by bz) budget r ⌝ }
     ensures counted { λ _. ⌜ now (totals .exit) ≡ lentAfter
@@ -226,4 +230,14 @@ pub extern "C" fn fenalukki_viewer_first_hit_counted(
     let seen = viewer_ticks(file, view_ray_of(ax, ay, az, bx, by, bz), budget);
     count_lent(hit_tally(seen), totals);
     hit_number(seen)
+}
+
+// A saved record of totals, read into those in use.
+#[no_mangle]
+pub extern "C" fn fenalukki_restore_totals(saved: &[u8], totals: &mut [u64; 3]) -> u32
+    ensures { λ r. ⌜ HostRestore (now (saved .entry)) (now (totals .entry)) r (now (totals .exit)) ⌝ }
+{
+    let answer = read_saved(saved);
+    put_saved(answer, totals);
+    saved_number(answer)
 }

@@ -1,7 +1,8 @@
 -- A host's place and ray as they are read (`hosts-place`, `hosts-ray`). The numbers that it gets fit, by what the calls promise: a refusal is at most
--- 15, and of 2^k ticks, k at most 12, a call has at most 2^(k+1) − 1 probes and a tick is below 2^k; a part has at most 511 nodes.
-use mathlib.Core.Path.{_≡_, sym, subst, _∙_}
-use mathlib.Core.Logic.{_⊎_, inl, inr}
+-- 18, and of 2^k ticks, k at most 12, a call has at most 2^(k+1) − 1 probes and a tick is below 2^k; a part has at most 511 nodes. The three numbers
+-- that it lends are a record of totals (`lent-counts`, `lent-restores`).
+use mathlib.Core.Path.{_≡_, refl, sym, subst, _∙_}
+use mathlib.Core.Logic.{inl, inr}
 use mathlib.Core.List.{List, [], _∷_}
 use Prim.Native.Nat.{ℕ, _^_, _≤_, _<_}
 use native.Mathlib.Omega.{arith}
@@ -40,7 +41,13 @@ use Rattle.view.specs.declared.ViewRay.{ViewRay}
 use Rattle.view.specs.Ray.{stepsRay}
 use Rattle.view.specs.Call.{viewOf, viewerTicks}
 use Rattle.view.specs.Demands.{inTicks, CountedView, ViewDemands}
+use Rattle.tally.specs.declared.Tally.{Tally}
+use Rattle.tally.specs.declared.Saved.{Saved}
+use Rattle.tally.specs.declared.Saved.the-variants as saved
+use Rattle.tally.specs.Counts.{afterTally}
+use Rattle.tally.specs.Saved.{SavedSays, afterSaved}
 use Rattle.numbers.specs.Numbers.{placeAt, rayOf, Told, checkNumber, boundsNumber, writeNumber}
+use Rattle.numbers.specs.Numbers.{totalsIn, lentAfter, savedNumber, savedLeft}
 
 -- the place of the host's three numbers, as they are read
 pub hosts-place : (x y z : ℤ) {p : Position} → SFits w32 x → SFits w32 y → SFits w32 z → p ≡ placeAt (back w32 x) (back w32 y) (back w32 z)
@@ -127,3 +134,21 @@ module _ (l : List ℤ) (iso : ℕ) (before : List ℕ) (place : ℕ) (after : L
   unfolding writeNumber WriteSays
   write-told (writer.Refused n) (e, refusal, same) = inl (few refusal)
   write-told (writer.End e) part = inr (omega arith)
+
+-- ---- a saved record
+
+pub saved-told : (bytes : List ℕ) (a : Saved) → SavedSays bytes a → Told 18 (savedNumber a)
+unfolding savedNumber SavedSays
+saved-told bytes (saved.Refused n) (other, is) = inl (omega (arith, is), omega (arith, is))
+saved-told bytes (saved.Read t) says = inr (omega arith)
+
+-- ---- the three numbers that a host lends are a record of totals: they follow every call and every saved record as it does
+
+pub lent-counts : (tally : Tally) (lent : List ℕ) → totalsIn (lentAfter tally lent) ≡ afterTally (totalsIn lent) tally
+unfolding totalsIn lentAfter
+lent-counts tally lent = refl
+
+pub lent-restores : (a : Saved) (lent : List ℕ) → totalsIn (savedLeft a lent) ≡ afterSaved (totalsIn lent) a
+unfolding totalsIn savedLeft afterSaved
+lent-restores (saved.Refused n) lent = refl
+lent-restores (saved.Read t) lent = refl

@@ -18,6 +18,8 @@ use Rattle.view.specs.declared.ViewEnd.{ViewEnd}
 use Rattle.view.specs.declared.ViewRay.{ViewRay}
 use Rattle.tally.specs.declared.Totals.{Totals}
 use Rattle.tally.specs.declared.Tally.{Tally}
+use Rattle.tally.specs.declared.Saved.{Saved}
+use Rattle.tally.specs.declared.Saved.the-variants as saved
 use Rattle.tally.specs.Counts.{afterTally}
 
 -- ---- handed over
@@ -62,6 +64,11 @@ unfoldable pub writeNumber : Written → ℕ
 writeNumber (writer.Refused number) = number
 writeNumber (writer.End end) = 65536 + end
 
+-- a saved record: the refusal number, or 65,536 where it is read
+unfoldable pub savedNumber : Saved → ℕ
+savedNumber (saved.Refused number) = number
+savedNumber (saved.Read totals) = 65536
+
 -- ---- the running totals as a host lends them: casts, probes and refusals, three numbers
 
 unfoldable pub totalsIn : List ℕ → Totals
@@ -73,3 +80,8 @@ totalsOut t = t .casts ∷ t .probes ∷ t .refusals ∷ []
 -- after a call
 unfoldable pub lentAfter : Tally → List ℕ → List ℕ
 lentAfter tally lent = totalsOut (afterTally (totalsIn lent) tally)
+
+-- after a saved record: its totals, where it is read
+unfoldable pub savedLeft : Saved → List ℕ → List ℕ
+savedLeft (saved.Refused number) lent = lent
+savedLeft (saved.Read totals) lent = totalsOut totals

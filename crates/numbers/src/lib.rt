@@ -1,5 +1,5 @@
 // A host's numbers: the place or ray that it hands over, what it gets for each case of an answer, and the running totals that it
-// lends (document 01, "Calls").
+// lends (document 01, "Calls"; document 02, P2 and P4).
 
 use bounds::BoundsAnswer;
 use cast::ColumnAnswer;
@@ -8,6 +8,7 @@ use field::Ray;
 use halving::CastAnswer;
 use halving::HitAnswer;
 use part::Checked;
+use tally::Saved;
 use tally::Tally;
 use tally::Totals;
 use tally::count;
@@ -19,7 +20,7 @@ ghost use Prim.Native.Nat.{_^_, _<_};
 ghost use Rattle.halving.specs.Numbers.{castNumber, hitNumber};
 ghost use Rattle.cast.specs.Column.{columnNumber};
 ghost use Rattle.numbers.specs.Numbers.{placeAt, rayOf, endOf, viewRayOf, checkNumber, boundsNumber, boundsLeft, writeNumber};
-ghost use Rattle.numbers.specs.Numbers.{totalsIn, totalsOut, lentAfter};
+ghost use Rattle.numbers.specs.Numbers.{totalsIn, totalsOut, lentAfter, savedNumber, savedLeft};
 
 // What k counts in a number, and what a tick or the node count does: 2³² and 65,536.
 pub const CASE: u64 = 4294967296;
@@ -132,9 +133,18 @@ pub fn write_number(answer: Written) -> u32
     }
 }
 
+pub fn saved_number(answer: Saved) -> u32
+    ensures { λ r. ⌜ r ≡ savedNumber answer ⌝ }
+{
+    match answer {
+        Saved::Refused(number) => number,
+        Saved::Read(_) => 65536,
+    }
+}
+
 // ---- the running totals, lent as three numbers
 
-pub fn totals_in(lent: &[u32; 3]) -> Totals
+pub fn totals_in(lent: &[u64; 3]) -> Totals
     ensures { λ r. ⌜ r ≡ totalsIn (now (lent .entry)) ⌝ }
 {
     Totals {
@@ -144,15 +154,24 @@ pub fn totals_in(lent: &[u32; 3]) -> Totals
     }
 }
 
-pub fn put_totals(totals: Totals, lent: &mut [u32; 3])
+pub fn put_totals(totals: Totals, lent: &mut [u64; 3])
     ensures { λ _. ⌜ now (lent .exit) ≡ totalsOut totals ⌝ }
 {
     *lent = [totals.casts, totals.probes, totals.refusals];
 }
 
 // Counts a call.
-pub fn count_lent(tally: Tally, lent: &mut [u32; 3])
+pub fn count_lent(tally: Tally, lent: &mut [u64; 3])
     ensures { λ _. ⌜ now (lent .exit) ≡ lentAfter tally (now (lent .entry)) ⌝ }
 {
     put_totals(count(totals_in(lent), tally), lent);
+}
+
+// The totals of a saved record that is read take their place.
+pub fn put_saved(answer: Saved, lent: &mut [u64; 3])
+    ensures { λ _. ⌜ now (lent .exit) ≡ savedLeft answer (now (lent .entry)) ⌝ }
+{
+    if let Saved::Read(totals) = answer {
+        put_totals(totals, lent);
+    }
 }

@@ -1,6 +1,6 @@
 -- Laws of the running totals.
-use mathlib.Core.Path.{_≡_, refl}
-use Prim.Native.Nat.{ℕ, _+_, _≤_, _<_}
+use mathlib.Core.Path.{_≡_, refl, _∙_}
+use Prim.Native.Nat.{ℕ, _+_, _≤_}
 use native.Mathlib.Omega.{arith}
 use Rattle.halving.specs.declared.HitAnswer.{HitAnswer}
 use Rattle.halving.specs.declared.HitAnswer.the-variants as found
@@ -8,55 +8,31 @@ use Rattle.view.specs.Call.{viewOf}
 use Rattle.tally.specs.declared.Totals.{Totals}
 use Rattle.tally.specs.declared.Tally.{Tally}
 use Rattle.tally.specs.declared.Tally.the-variants.{Cast, Refused}
-use Rattle.tally.specs.Counts.{ceiling, capped, afterTally, hitTally, viewTally}
+use Rattle.tally.specs.Counts.{ceiling, capped, afterTally, hitTally, viewTally, Total, castsTotal, probesTotal, refusalsTotal, total, adds}
 
--- ---- below the ceiling: a sum is itself
+module _ (i : Total) (t : Totals) (tally : Tally) where
+  -- a total after a tally: what there was and what it adds, up to the ceiling
+  pub tally-adds : total i t ≤ ceiling → total i (afterTally t tally) ≡ capped (total i t + adds i tally)
+  unfolding total adds afterTally capped
+  tally-adds h = go i tally h
+    where
+      go : (i : Total) (tally : Tally) → total i t ≤ ceiling → total i (afterTally t tally) ≡ capped (total i t + adds i tally)
+      go castsTotal (Cast p) h = refl
+      go probesTotal (Cast p) h = refl
+      go refusalsTotal (Cast p) h = omega arith
+      go castsTotal Refused h = omega arith
+      go probesTotal Refused h = omega arith
+      go refusalsTotal Refused h = refl
 
-capped-below : (n : ℕ) → n ≤ ceiling → capped n ≡ n
-unfolding capped
-capped-below n h = omega arith
+  -- below the ceiling it is the sum itself
+  pub tally-exact : total i t + adds i tally ≤ ceiling → total i (afterTally t tally) ≡ total i t + adds i tally
+  unfolding capped
+  tally-exact h = tally-adds (omega arith) ∙ omega arith
 
-module _ (t : Totals) where
-  pub refusal-adds : t .refusals < ceiling → afterTally t Refused .refusals ≡ t .refusals + 1
-  unfolding afterTally
-  refusal-adds h = capped-below (t .refusals + 1) (omega arith)
-
-  -- a refusal leaves casts and probes alone
-  pub refusal-leaves : (afterTally t Refused .casts ≡ t .casts) × (afterTally t Refused .probes ≡ t .probes)
-  unfolding afterTally
-  refusal-leaves = (refl, refl)
-
-  pub cast-adds : (probes : ℕ) → t .casts < ceiling → t .probes + probes ≤ ceiling
-      → (afterTally t (Cast probes) .casts ≡ t .casts + 1) × (afterTally t (Cast probes) .probes ≡ t .probes + probes)
-  unfolding afterTally
-  cast-adds probes h k = (capped-below (t .casts + 1) (omega arith), capped-below (t .probes + probes) k)
-
-  -- and a cast leaves refusals alone
-  pub cast-leaves : (probes : ℕ) → afterTally t (Cast probes) .refusals ≡ t .refusals
-  unfolding afterTally
-  cast-leaves probes = refl
-
--- ---- at the ceiling: a total stays there, whatever is added
-
-capped-stays : (n : ℕ) → capped (ceiling + n) ≡ ceiling
-unfolding capped
-capped-stays n = omega arith
-
-module _ (t : Totals) where
-  pub casts-stay : (tally : Tally) → t .casts ≡ ceiling → afterTally t tally .casts ≡ ceiling
-  unfolding afterTally
-  casts-stay (Cast probes) e = rw e (capped-stays 1)
-  casts-stay Refused e = e
-
-  pub probes-stay : (tally : Tally) → t .probes ≡ ceiling → afterTally t tally .probes ≡ ceiling
-  unfolding afterTally
-  probes-stay (Cast probes) e = rw e (capped-stays probes)
-  probes-stay Refused e = e
-
-  pub refusals-stay : (tally : Tally) → t .refusals ≡ ceiling → afterTally t tally .refusals ≡ ceiling
-  unfolding afterTally
-  refusals-stay (Cast probes) e = e
-  refusals-stay Refused e = rw e (capped-stays 1)
+  -- at the ceiling it stays there, whatever is added
+  pub tally-stays : total i t ≡ ceiling → total i (afterTally t tally) ≡ ceiling
+  unfolding capped
+  tally-stays e = tally-adds (omega (arith, e)) ∙ omega (arith, e)
 
 -- ---- a viewer's first hit adds what a first hit does
 

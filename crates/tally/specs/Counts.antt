@@ -1,4 +1,4 @@
--- The running totals after a call (document 01, "Calls").
+-- The running totals after a call (document 01, "Calls"; document 02, P4).
 use Prim.Native.Nat.{ℕ, _+_, min}
 use Rattle.halving.specs.declared.CastAnswer.{CastAnswer}
 use Rattle.halving.specs.declared.CastAnswer.the-variants as cast
@@ -12,11 +12,11 @@ use Rattle.tally.specs.declared.Totals.{Totals}
 use Rattle.tally.specs.declared.Tally.{Tally}
 use Rattle.tally.specs.declared.Tally.the-variants.{Cast, Refused}
 
--- the greatest total
+-- "the 64-bit maximum", 2⁶⁴ − 1
 abbrev pub ceiling : ℕ
-ceiling = 4294967295
+ceiling = 18446744073709551615
 
--- "A total that would pass 4,294,967,295 becomes that number, and it stays there."
+-- "A total that would pass" the ceiling "becomes that number, and it stays there."
 unfoldable pub capped : ℕ → ℕ
 capped n = min n ceiling
 
@@ -47,3 +47,24 @@ viewTally (view.Refused number) = Refused
 viewTally (view.Hit entry mark probes) = Cast probes
 viewTally (view.Clear probes) = Cast probes
 viewTally (view.Spent place probes) = Cast probes
+
+-- ---- each total by itself
+
+-- "casts, probes, refusals"
+pub data Total : Type 0 where
+  castsTotal probesTotal refusalsTotal : Total
+
+-- its number in a record
+unfoldable pub total : Total → Totals → ℕ
+total castsTotal t = t .casts
+total probesTotal t = t .probes
+total refusalsTotal t = t .refusals
+
+-- what a tally adds to it, whatever the ceiling
+unfoldable pub adds : Total → Tally → ℕ
+adds castsTotal (Cast probes) = 1
+adds probesTotal (Cast probes) = probes
+adds refusalsTotal (Cast probes) = 0
+adds castsTotal Refused = 0
+adds probesTotal Refused = 0
+adds refusalsTotal Refused = 1

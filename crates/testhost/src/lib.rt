@@ -1,5 +1,5 @@
-// Entries for tests alone, of what no host in C needs: the calls that are handed the running totals as a record, and the viewer's
-// answer with its place as a float. Hosts link `fenalukki`, which has neither.
+// Entries for tests alone, of what no host in C needs: the calls that are handed the running totals as a record, the reading of a saved
+// record into it, and the viewer's answer with its place as a float. Hosts link `fenalukki`, which has none of these.
 
 use field::Ray;
 use numbers::CASE;
@@ -8,12 +8,14 @@ use numbers::column_number;
 use numbers::hit_number;
 use numbers::put_totals;
 use numbers::ray_of;
+use numbers::saved_number;
 use numbers::totals_in;
 use numbers::view_ray_of;
 use totals::Answer;
 use totals::Call;
 use totals::ViewCall;
 use totals::perform_by_value;
+use totals::restore_by_value;
 use totals::view_by_value;
 use view::ViewAnswer;
 ghost use mathlib.Core.Path.{_≡_};
@@ -21,9 +23,10 @@ ghost use mathlib.Core.List.{[], _∷_};
 ghost use lib.ListN.{length};
 ghost use Rattle.view.specs.Call.{viewerFirstHit};
 ghost use Rattle.view.specs.Numbers.{viewNumber, viewPlace};
-ghost use Rattle.totals.specs.Calls.{answerTo, bytesLeft, totalsAfter, totalsAfterView};
+ghost use Rattle.tally.specs.Saved.{readSaved};
+ghost use Rattle.totals.specs.Calls.{answerTo, bytesLeft, totalsAfter, totalsAfterView, totalsRestored};
 ghost use Rattle.totals.specs.Numbers.{numberOf, NumberFits};
-ghost use Rattle.numbers.specs.Numbers.{rayOf, viewRayOf, totalsIn, totalsOut};
+ghost use Rattle.numbers.specs.Numbers.{rayOf, viewRayOf, totalsIn, totalsOut, savedNumber};
 ghost use Rattle.testhost.specs.Entries.{callOf, viewCallOf};
 
 fn view_number(answer: ViewAnswer) -> u64
@@ -98,7 +101,7 @@ pub extern "C" fn testhost_call(
     bz: i32,
     budget: u32,
     buffer: &mut [u8],
-    totals: &mut [u32; 3],
+    totals: &mut [u64; 3],
 ) -> u64
     ensures answer { λ r. ⌜ r ≡ numberOf
         (answerTo (now (file .entry)) (callOf which (rayOf ax ay az bx by bz) budget) (length (now (buffer .entry)))) ⌝ }
@@ -127,7 +130,7 @@ pub extern "C" fn testhost_view(
     bz: f32,
     budget: u32,
     place: &mut [f32; 1],
-    totals: &mut [u32; 3],
+    totals: &mut [u64; 3],
 ) -> u64
     ensures answer { λ r. ⌜ r ≡ viewNumber (viewerFirstHit (now (file .entry)) (viewRayOf ax ay az bx by bz) budget) ⌝ }
     ensures place { λ _. ⌜ now (place .exit) ≡ viewPlace (viewerFirstHit (now (file .entry)) (viewRayOf ax ay az bx by bz) budget) ∷ [] ⌝ }
@@ -143,4 +146,16 @@ pub extern "C" fn testhost_view(
     let answer = counted.answer;
     *place = [place_in(answer)];
     view_number(answer)
+}
+
+// A saved record, read into the totals in three numbers; its number.
+#[no_mangle]
+pub extern "C" fn testhost_restore(saved: &[u8], totals: &mut [u64; 3]) -> u32
+    ensures answer { λ r. ⌜ r ≡ savedNumber (readSaved (now (saved .entry))) ⌝ }
+    ensures restored { λ _. ⌜ now (totals .exit) ≡ totalsOut (totalsRestored (now (saved .entry)) (totalsIn (now (totals .entry)))) ⌝ }
+{
+    let restored = restore_by_value(saved, totals_in(totals));
+    put_totals(restored.totals, totals);
+    let answer = restored.answer;
+    saved_number(answer)
 }

@@ -1,4 +1,4 @@
--- What each call promises is what `Performed` or `Viewed` says of it. And laws of a call and the totals after it.
+-- What each call promises is what `Performed` or `Viewed` says of it, and of a saved record `Answered`. And laws of a call and the totals after it.
 use mathlib.Core.Path.{_≡_, refl, ap, sym, _∙_}
 use mathlib.Core.List.{List}
 use Prim.Native.Nat.{ℕ, _^_}
@@ -19,13 +19,16 @@ use Rattle.view.specs.Call.{viewQuestions, viewOf, viewerTicks, viewerFirstHit}
 use Rattle.view.specs.Demands.{ViewDemands}
 use Rattle.tally.specs.declared.Totals.{Totals}
 use Rattle.tally.specs.declared.Tally.the-variants.{Refused}
+use Rattle.tally.specs.declared.Saved.{Saved}
 use Rattle.tally.specs.Counts.{afterTally, castTally, hitTally, columnTally, viewTally}
+use Rattle.tally.specs.Saved.{readSaved, SavedSays, afterSaved}
 use Rattle.totals.specs.declared.Call.{Call}
 use Rattle.totals.specs.declared.Call.the-variants as call
 use Rattle.totals.specs.declared.Answer.{Answer}
 use Rattle.totals.specs.declared.Answer.the-variants as answer
 use Rattle.totals.specs.declared.ViewCall.{ViewCall}
 use Rattle.totals.specs.Calls.{answerTo, bytesLeft, Demanded, Performed, tallyOf, totalsAfter, viewTo, Viewed, totalsAfterView}
+use Rattle.totals.specs.Calls.{Answered, totalsRestored}
 
 module _ (file : List ℕ) (ray : Ray) (lent : List ℕ) {c : Call} where
   pub cast-performed : (budget : ℕ) (w : CastAnswer) (after : List ℕ)
@@ -51,6 +54,9 @@ module _ (file : List ℕ) (c : ViewCall) {r : ViewAnswer} where
   unfolding viewTo
   viewed (a, demands) = record { answer = a; demands = demands }
 
+pub answered : {saved : List ℕ} {r : Saved} → r ≡ readSaved saved → SavedSays saved r → Answered saved r
+answered is says = record { answer = is; says = says }
+
 -- the totals that an answer's tally makes are those after the call
 pub totals-after : {file : List ℕ} {c : Call} {lent : List ℕ} {r : Answer} {after : List ℕ} (t : Totals) {t′ : Totals}
     → Performed file c lent r after → t′ ≡ afterTally t (tallyOf r) → t′ ≡ totalsAfter file c (length lent) t
@@ -61,6 +67,11 @@ pub totals-after-view : {file : List ℕ} {c : ViewCall} {r : ViewAnswer} (t : T
     → Viewed file c r → t′ ≡ afterTally t (viewTally r) → t′ ≡ totalsAfterView file c t
 unfolding totalsAfterView
 totals-after-view t v e = e ∙ ap (λ (r : ViewAnswer). afterTally t (viewTally r)) (v .answer)
+
+pub totals-restored : {saved : List ℕ} {r : Saved} (t : Totals) {t′ : Totals}
+    → Answered saved r → t′ ≡ afterSaved t r → t′ ≡ totalsRestored saved t
+unfolding totalsRestored
+totals-restored t a e = e ∙ ap (afterSaved t) (a .answer)
 
 -- ---- laws
 

@@ -2,7 +2,7 @@
 --     says-both    a goal P ∗ (⌜φ⌝ ∗ ⌜ψ⌝): φ and ψ are shown, and P is left
 --     held         the operand is the local whose cell is entry n
 --     freed        the local whose cell is entry n is freed
---     counts       the lent totals are read whole, a counter is called on them and an answer, and what it gives is stored whole
+--     updates      the lent totals are read whole, an update is called on them and an answer, and what it gives is stored whole
 --     lends        a local that holds totals is lent, for a lifetime that is made for the loan
 --     regains      that lifetime is ended, and the local holds the last totals
 use mathlib.Core.Path.{_≡_, refl}
@@ -107,29 +107,33 @@ module _ {M : Type 1} {𝓤 : URA M} {H : Heap 𝓤} {A : Atoms 𝓤} {K : Type 
       step (λ s. move t (n ∷ []) $ forget t 0 cell $ move t (suc n ∷ []) $
       rewrite t 0 (λ (i : Item 𝓤). i) dies refl $ move t (1 ∷ 0 ∷ []) $ free1 t $ s)
 
--- ---- a counter: totals and an answer by value, and the totals after it
-abbrev counter : RattleType → Ended
-counter R = record {
+-- ---- an update: totals and an answer by value, and the totals after it
+abbrev update : RattleType → Ended
+update R = record {
   signature = record { lifetimes = 0; outlives = []; params = plain (λ _. T.the-row) ∷ plain (λ _. R) ∷ []; result = plain (λ _. T.the-row) };
   kept = (yes, (yes, tt));
 }
 
-module _ {M : Type 1} (𝓤 : URA M) (H : Heap 𝓤) (A : Atoms 𝓤) (R : RattleType) (tally : R .Denot → Tally) where
-  abbrev pub Counter : Contract 𝓤
-  Counter = tripleOf 𝓤 H A (counter R .signature) (λ κs a. record {
+module _ {M : Type 1} (𝓤 : URA M) (H : Heap 𝓤) (A : Atoms 𝓤) (R : RattleType) (after : Totals → R .Denot → Totals) where
+  abbrev pub Update : Contract 𝓤
+  Update = tripleOf 𝓤 H A (update R .signature) (λ κs a. record {
     ghost = Unit {0};
     requires = λ _. emp 𝓤;
-    ensures = λ _ t. exits 𝓤 H A (counter R .signature) (counter R .kept) κs a (λ _. fact 𝓤 (t ≡ afterTally (a .0) (tally (a .1 .0))));
+    ensures = λ _ t. exits 𝓤 H A (update R .signature) (update R .kept) κs a (λ _. fact 𝓤 (t ≡ after (a .0) (a .1 .0)));
   })
 
-  abbrev asked : Totals → R .Denot → Val → Counter .Ghost
+  abbrev asked : Totals → R .Denot → Val → Update .Ghost
   asked h r w = ((tt, tt, tt, (h, (r, tt)), (vals h, (w ∷ [], tt))), tt)
 
   goes : (W : Given 𝓤 H A) (h : Totals) (r : R .Denot) (w : Val)
-      → ent 𝓤 (⋆ 𝓤 H A (‵ (T.the-row .own h (vals h)) ∷ ‵ (R .own r (w ∷ [])) ∷ [])) (Counter .pre (asked h r w))
+      → ent 𝓤 (⋆ 𝓤 H A (‵ (T.the-row .own h (vals h)) ∷ ‵ (R .own r (w ∷ [])) ∷ [])) (Update .pre (asked h r w))
   goes W h r w =
       qed W (‵ (T.the-row .own h (vals h)) ∷ ‵ (R .own r (w ∷ [])) ∷ []) ∵ nothing ! $ move ! (2 ∷ 0 ∷ []) $ join ! $
       move ! (1 ∷ 0 ∷ []) $ join ! $ nothing ! $ join ! $ frame ! $ done !
+
+-- one that counts an answer
+abbrev pub tallied : {A : Type 0} → (A → Tally) → Totals → A → Totals
+tallied tally t r = afterTally t (tally r)
 
 -- room for a local, and its cell
 module _ {M : Type 1} (𝓤 : URA M) (H : Heap 𝓤) (E : Env 𝓤 H) (i : ℕ) where
@@ -142,10 +146,10 @@ module _ {M : Type 1} (𝓤 : URA M) (H : Heap 𝓤) (E : Env 𝓤 H) (i : ℕ) 
 module _ {M : Type 1} {𝓤 : URA M} {H : Heap 𝓤} {A : Atoms 𝓤} {W : Given 𝓤 H A} {Γ : List (Item 𝓤)}
     {C : Calls 𝓤 H} {Λ : Loops 𝓤 H} {E : Env 𝓤 H} {P : Post 𝓤 H} {f : Name} {i j k l : ℕ} {rest : Code} where
   -- _i is the totals, _j the answer, _k the new totals and _l the totals read
-  pub counts : Go {0} → FmC 𝓤 H (W .laws) C → (R : RattleType) (tally : R .Denot → Tally) → Triple 𝓤 (C f) (Counter 𝓤 H A R tally)
+  pub updates : Go {0} → FmC 𝓤 H (W .laws) C → (R : RattleType) (after : Totals → R .Denot → Totals) → Triple 𝓤 (C f) (Update 𝓤 H A R after)
       → Makes 𝓤 H A R (Is R) → (r : R .Denot) (w : Val) → Is R r (w ∷ []) → spotOf 𝓤 H E k .0 ≡ T′.mir → spotOf 𝓤 H E l .0 ≡ T′.mir
       → {d₀ d₁ d₂ d₃ : Item 𝓤} {κ : Lft} {q : Share} {γ : GName} (h : Totals) (b o : ℕ)
-      → ((h′ : Totals) (v : Val) → h′ ≡ afterTally h (tally r)
+      → ((h′ : Totals) (v : Val) → h′ ≡ after h r
       → Seq (Go {0}) W (‵ (fobs γ (T.the-row .coded .code h′)) ∷ ‵ (fbor κ (Body (mem T.the-row) b o γ)) ∷ ‵ (flft κ q)
       ∷ cell 𝓤 H E l (val h) ∷ d₃ ∷ cell 𝓤 H E k v ∷ d₂ ∷ cell 𝓤 H E j w ∷ d₁ ∷ cell 𝓤 H E i (vptr b o) ∷ d₀ ∷ Γ) (runs C Λ E rest P))
       → Seq (Go {0}) W (‵ (fobs γ (T.the-row .coded .code h)) ∷ ‵ (fbor κ (Body (mem T.the-row) b o γ)) ∷ ‵ (flft κ q)
@@ -153,19 +157,19 @@ module _ {M : Type 1} {𝓤 : URA M} {H : Heap 𝓤} {A : Atoms 𝓤} {W : Given
       (runs C Λ E (seq (assign (place l []) (rvOpd (copy (place i (deref T′.mir ∷ [])))))
       (seq (call f (copy (place l []) ∷ copy (place j []) ∷ []) (place k []))
       (seq (assign (place i (deref T′.mir ∷ [])) (rvOpd (copy (place k [])))) rest))) P)
-  counts z fm R tally met mk r w is at-k at-l h b o go =
-      let c = Counter 𝓤 H A R tally in
-      let x = asked 𝓤 H A R tally h r w in
+  updates z fm R after met mk r w is at-k at-l h b o go =
+      let c = Update 𝓤 H A R after in
+      let x = asked 𝓤 H A R after h r w in
       opened ! tt h b o (λ was.
       -- [the totals' cell; what they own; the open borrow; obs; auth; _l; …; _k; …; _j; …; _i; …]
       assigns ! (of-opd ! (load ! (from ! (hop ! (look ! 11 refl) (stop !))) (look-raw ! 0 refl)))
       (from ! (stop !)) (init ! 5 refl (rw at-l (totals-typed W h _ was .0))) $
-      owned ! R (Is R) mk r (w ∷ []) is $ move ! (2 ∷ 0 ∷ []) $ use2 W (raw (c .pre x)) (goes 𝓤 H A R tally W h r w) $
+      owned ! R (Is R) mk r (w ∷ []) is $ move ! (2 ∷ 0 ∷ []) $ use2 W (raw (c .pre x)) (goes 𝓤 H A R after W h r w) $
       calls-at ! fm c met x (and-then ! (held ! 5 refl) (and-then ! (held ! 9 refl) (no-more !))) (λ v.
-      use1 W (later (some (λ (h′ : Totals). (‵ ftrue ⊛ ‵ (T.the-row .own h′ (v ∷ []))) ⊛ some (λ (zs : Lasts (counter R) tt (h, (r, tt))).
-      ‵ (lasts (counter R) tt (h, (r, tt)) zs) ⊛ raw (fact 𝓤 (h′ ≡ afterTally h (tally r))))))) (id⊢ 𝓤 _) $
+      use1 W (later (some (λ (h′ : Totals). (‵ ftrue ⊛ ‵ (T.the-row .own h′ (v ∷ []))) ⊛ some (λ (zs : Lasts (update R) tt (h, (r, tt))).
+      ‵ (lasts (update R) tt (h, (r, tt)) zs) ⊛ raw (fact 𝓤 (h′ ≡ after h r)))))) (id⊢ 𝓤 _) $
       await ! tt $ pick ! (λ h′. split ! $ move ! (1 ∷ []) $ pick ! (λ _. split ! $ drop ! $
-      heard ! (h′ ≡ afterTally h (tally r)) (λ e. split ! $ drop ! $
+      heard ! (h′ ≡ after h r) (λ e. split ! $ drop ! $
       -- [what the new totals own; the totals' cell; the open borrow; obs; auth; _l; …; _k; …; _j; …; _i; …]
       peeks ! T.the-row (Is T.the-row) (shows 𝓤 H A T.the-row) h′ (v ∷ []) (λ is′.
       land ! (from ! (stop !)) (init ! 7 refl (rw at-k (totals-typed W h′ _ is′ .0))) $

@@ -1,4 +1,5 @@
 -- Full cast, first hit and column as one call, and the viewer's first hit beside it; each with the running totals afterwards (document 01, "Calls").
+-- And the totals after a saved record is read (document 02, P4).
 use mathlib.Core.Path.{_≡_}
 use mathlib.Core.List.{List}
 use Prim.Native.Nat.{ℕ}
@@ -12,7 +13,9 @@ use Rattle.view.specs.Call.{viewerFirstHit}
 use Rattle.view.specs.Demands.{ViewDemands}
 use Rattle.tally.specs.declared.Totals.{Totals}
 use Rattle.tally.specs.declared.Tally.{Tally}
+use Rattle.tally.specs.declared.Saved.{Saved}
 use Rattle.tally.specs.Counts.{afterTally, castTally, hitTally, columnTally, viewTally}
+use Rattle.tally.specs.Saved.{readSaved, SavedSays, afterSaved}
 use Rattle.totals.specs.declared.Call.{Call}
 use Rattle.totals.specs.declared.Call.the-variants as call
 use Rattle.totals.specs.declared.Answer.{Answer}
@@ -69,3 +72,14 @@ pub record Viewed (file : List ℕ) (call : ViewCall) (r : ViewAnswer) : Type 0 
 -- the totals after it
 unfoldable pub totalsAfterView : List ℕ → ViewCall → Totals → Totals
 totalsAfterView file call totals = afterTally totals (viewTally (viewTo file call))
+
+-- ---- a saved record
+
+-- its answer, lent no totals, and what that says
+pub record Answered (saved : List ℕ) (r : Saved) : Type 0 where
+  pub answer : r ≡ readSaved saved
+  pub says : SavedSays saved r
+
+-- the totals after it is read
+unfoldable pub totalsRestored : List ℕ → Totals → Totals
+totalsRestored saved totals = afterSaved totals (readSaved saved)

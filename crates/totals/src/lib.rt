@@ -1,4 +1,5 @@
-// The casting calls: lent no totals, handed them by value, and, in two thin functions, lent them (document 01, "Calls").
+// The casting calls: lent no totals, handed them by value, and, in two thin functions, lent them (document 01, "Calls"); and the reading
+// of a saved record into the totals, by value and lent (document 02, P4).
 
 use cast::ColumnAnswer;
 use cast::column;
@@ -7,12 +8,15 @@ use cast::full_cast;
 use field::Ray;
 use halving::CastAnswer;
 use halving::HitAnswer;
+use tally::Saved;
 use tally::Tally;
 use tally::Totals;
 use tally::cast_tally;
 use tally::column_tally;
 use tally::count;
 use tally::hit_tally;
+use tally::read_saved;
+use tally::restored;
 use tally::view_tally;
 use view::ViewAnswer;
 use view::ViewRay;
@@ -20,7 +24,7 @@ use view::viewer_first_hit;
 ghost use mathlib.Core.Path.{_≡_};
 ghost use lib.ListN.{length};
 ghost use Rattle.tally.specs.Counts.{afterTally, viewTally};
-ghost use Rattle.totals.specs.Calls.{tallyOf, Performed, totalsAfter, Viewed, totalsAfterView};
+ghost use Rattle.totals.specs.Calls.{tallyOf, Performed, totalsAfter, Viewed, totalsAfterView, Answered, totalsRestored};
 
 // A call on a ray in whole steps.
 pub enum Call {
@@ -50,6 +54,12 @@ pub struct CountedAnswer {
 
 pub struct CountedViewAnswer {
     pub answer: ViewAnswer,
+    pub totals: Totals,
+}
+
+// A saved record, read, and the totals after it.
+pub struct Restored {
+    pub answer: Saved,
     pub totals: Totals,
 }
 
@@ -146,5 +156,30 @@ pub fn view_counted(file: &[u8], call: ViewCall, totals: &mut Totals) -> ViewAns
 {
     let answer = view(file, call);
     *totals = count_view(*totals, answer);
+    answer
+}
+
+// ---- a saved record, read into the totals
+
+// Handed them by value: a record of its own is lent to the call that is lent the totals.
+pub fn restore_by_value(saved: &[u8], totals: Totals) -> Restored
+    ensures answered { λ r. ⌜ Answered (now (saved .entry)) (r .answer) ⌝ }
+    ensures restored { λ r. ⌜ r .totals ≡ totalsRestored (now (saved .entry)) totals ⌝ }
+{
+    let mut record = totals;
+    let answer = restore(saved, &mut record);
+    Restored {
+        answer: answer,
+        totals: record,
+    }
+}
+
+// Lent them; the lent totals are then those after it.
+pub fn restore(saved: &[u8], totals: &mut Totals) -> Saved
+    ensures answered { λ r. ⌜ Answered (now (saved .entry)) r ⌝ }
+    ensures restored { λ _. ⌜ now (totals .exit) ≡ totalsRestored (now (saved .entry)) (now (totals .entry)) ⌝ }
+{
+    let answer = read_saved(saved);
+    *totals = restored(*totals, answer);
     answer
 }

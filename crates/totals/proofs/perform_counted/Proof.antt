@@ -44,7 +44,7 @@ use Rattle.totals.specs.declared.Call.{Call}
 use Rattle.totals.specs.declared.Answer.{Answer}
 use Rattle.totals.specs.Calls.{tallyOf, Performed}
 use Rattle.totals.proofs.Calls.{totals-after}
-use Rattle.totals.proofs.Lent.{Counter, counts, says-both, held, freed}
+use Rattle.totals.proofs.Lent.{Update, tallied, updates, says-both, held, freed}
 use Rattle.tally.proofs.Totals as T
 use Rattle.totals.proofs.Call as K
 use Rattle.totals.proofs.Call.Laws as K′
@@ -82,7 +82,7 @@ module _ {M : Type 1} (𝓤 : URA M) (H : Heap 𝓤) (A : Atoms 𝓤) (W : Given
   Perform = tripleOf 𝓤 H A perform.signature (perform.spec 𝓤 H A at-mem run)
 
   abbrev Count : Contract 𝓤
-  Count = Counter 𝓤 H A R.the-row tallyOf
+  Count = Update 𝓤 H A R.the-row (tallied tallyOf)
 
   abbrev ours : Clauses 𝓤 f.ended
   ours = f.clauses 𝓤 H A at-mem run
@@ -164,7 +164,8 @@ module _ {M : Type 1} (𝓤 : URA M) (H : Heap 𝓤) (A : Atoms 𝓤) (W : Given
           land ! (from ! (stop !)) (init ! 11 refl (answer-typed r _ is .0)) $
           -- the totals are counted up
           move ! (23 ∷ 24 ∷ 25 ∷ 3 ∷ 4 ∷ 5 ∷ 6 ∷ 11 ∷ 12 ∷ 13 ∷ 14 ∷ []) $
-          counts ! fm R.the-row tallyOf counting (EL.makes R.the-type R′.the-plain 𝓤 H A) r w is refl refl h (p .ptr .0) (p .ptr .1) (λ h′ _ e′.
+          updates ! fm R.the-row (tallied tallyOf) counting (EL.makes R.the-type R′.the-plain 𝓤 H A) r w is refl refl
+          h (p .ptr .0) (p .ptr .1) (λ h′ _ e′.
           -- [obs; the borrow; the third token; _9; …; _8; …; _5; …; _4; …; what the answer owns; two tokens; the last list;
           --  _7; …; _6; …; _3; …; …; _0; …]
           assigns ! (of-opd ! (held ! 7 refl)) (from ! (stop !)) (init ! 24 refl (answer-typed r _ is .0)) $

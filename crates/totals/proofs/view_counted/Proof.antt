@@ -43,7 +43,7 @@ use Rattle.tally.specs.Counts.{viewTally}
 use Rattle.totals.specs.declared.ViewCall.{ViewCall}
 use Rattle.totals.specs.Calls.{Viewed}
 use Rattle.totals.proofs.Calls.{totals-after-view}
-use Rattle.totals.proofs.Lent.{Counter, counts, says-both, held, freed}
+use Rattle.totals.proofs.Lent.{Update, tallied, updates, says-both, held, freed}
 use Rattle.tally.proofs.Totals as T
 use Rattle.totals.proofs.ViewCall as K
 use Rattle.totals.proofs.ViewCall.Laws as K′
@@ -78,7 +78,7 @@ module _ {M : Type 1} (𝓤 : URA M) (H : Heap 𝓤) (A : Atoms 𝓤) (W : Given
   View = tripleOf 𝓤 H A view.signature (view.spec 𝓤 H A at-mem run)
 
   abbrev Count : Contract 𝓤
-  Count = Counter 𝓤 H A R.the-row viewTally
+  Count = Update 𝓤 H A R.the-row (tallied viewTally)
 
   abbrev ours : Clauses 𝓤 f.ended
   ours = f.clauses 𝓤 H A at-mem run
@@ -147,7 +147,8 @@ module _ {M : Type 1} (𝓤 : URA M) (H : Heap 𝓤) (A : Atoms 𝓤) (W : Given
           land ! (from ! (stop !)) (init ! 6 refl (answer-typed r _ is .0)) $
           -- the totals are counted up
           move ! (16 ∷ 17 ∷ 18 ∷ 2 ∷ 3 ∷ 4 ∷ 5 ∷ 6 ∷ 7 ∷ 8 ∷ 9 ∷ []) $
-          counts ! fm R.the-row viewTally counting (EL.makes R.the-type R′.the-plain 𝓤 H A) r w is refl refl h (p .ptr .0) (p .ptr .1) (λ h′ _ e′.
+          updates ! fm R.the-row (tallied viewTally) counting (EL.makes R.the-type R′.the-plain 𝓤 H A) r w is refl refl
+          h (p .ptr .0) (p .ptr .1) (λ h′ _ e′.
           -- [obs; the borrow; the second token; _6; …; _5; …; _4; …; _3; …; what the answer owns; the first token; _2; …; _1; …; _0; …]
           assigns ! (of-opd ! (held ! 7 refl)) (from ! (stop !)) (init ! 17 refl (answer-typed r _ is .0)) $
           returns ! (look ! 17 refl) $ freed ! 17 refl refl $ freed ! 15 refl refl $ freed ! 13 refl refl $ freed ! 9 refl refl $
