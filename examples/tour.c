@@ -1,9 +1,10 @@
-/* A tour of fenalukki.h: writes a part of three points, makes each of the twelve
- * calls with it, has its points joined by other operators, and each refusal
+/* A tour of fenalukki.h: writes a part of three points, makes each of the
+ * thirteen calls, has the points joined by other operators, and each refusal
  * number answered once. What it prints is in tour.out. Lengths are in steps of
  * 1/64 mm but for the viewer's, which are in millimetres. */
 #include "fenalukki.h"
 
+#include <inttypes.h>
 #include <stdio.h>
 #include <string.h>
 
@@ -414,12 +415,11 @@ static void show_overlaps(void)
 
 /* 10. Counted calls: three totals that each call adds to. */
 
-static void print_totals(const char *after, const uint32_t totals[FENALUKKI_TOTALS])
+static void print_totals(const char *after, const uint64_t totals[FENALUKKI_TOTALS])
 {
-    printf("%s: casts %lu, probes %lu, refusals %lu\n", after,
-           (unsigned long)totals[FENALUKKI_TOTALS_CASTS],
-           (unsigned long)totals[FENALUKKI_TOTALS_PROBES],
-           (unsigned long)totals[FENALUKKI_TOTALS_REFUSALS]);
+    printf("%s: casts %" PRIu64 ", probes %" PRIu64 ", refusals %" PRIu64 "\n", after,
+           totals[FENALUKKI_TOTALS_CASTS], totals[FENALUKKI_TOTALS_PROBES],
+           totals[FENALUKKI_TOTALS_REFUSALS]);
 }
 
 static void show_totals(const struct part *part)
@@ -427,7 +427,7 @@ static void show_totals(const struct part *part)
     const uint8_t *file = part->bytes;
     size_t length = part->length;
     uint8_t marks[FENALUKKI_MARKS_BYTES], bits[FENALUKKI_COLUMN_BYTES];
-    uint32_t totals[FENALUKKI_TOTALS] = {0, 0, 0};
+    uint64_t totals[FENALUKKI_TOTALS] = {0, 0, 0};
 
     printf("\n10. Running totals\n");
     fenalukki_full_cast_counted(file, length, 0, 1024, 0, 0, -1024, 0, 30, marks, sizeof marks,
@@ -448,7 +448,37 @@ static void show_totals(const struct part *part)
     print_totals("a column, with probes near the ceiling", totals);
 }
 
-/* 11. Every refusal. */
+/* 11. A saved record, read into the totals: its probes are at the ceiling of 32
+ * bits, and the column after it counts on from there. */
+
+static const uint8_t saved[FENALUKKI_SAVED_BYTES] = {
+    0x15, 0xcd, 0x5b, 0x07, 0xff, 0xff, 0xff, 0xff, 0x2a, 0x00, 0x00, 0x00
+};
+
+static void print_restore(size_t length, uint64_t totals[FENALUKKI_TOTALS])
+{
+    uint32_t number = fenalukki_restore_totals(saved, length, totals);
+
+    printf("%lu bytes: ", (unsigned long)length);
+    if (!is_refused(number))
+        printf("read\n");
+    print_totals("  the totals", totals);
+}
+
+static void show_restore(const struct part *part)
+{
+    uint8_t bits[FENALUKKI_COLUMN_BYTES];
+    uint64_t totals[FENALUKKI_TOTALS] = {0, 0, 0};
+
+    printf("\n11. A saved record\n");
+    print_restore(FENALUKKI_SAVED_BYTES, totals);
+    fenalukki_column_counted(part->bytes, part->length, 0, 1024, 0, 0, -1024, 0, bits,
+                             sizeof bits, totals);
+    print_totals("a column", totals);
+    print_restore(FENALUKKI_SAVED_BYTES - 1, totals);
+}
+
+/* 12. Every refusal. */
 
 /* 1 to 4 by a file that has one fault. */
 static uint64_t refused_file(struct part part, int number)
@@ -534,11 +564,13 @@ static uint32_t refused_write(int number)
     }
 }
 
-/* 12 to 15 by a place, a ray, a buffer or a float, the others as above. */
+/* 12 to 15 and 18 by a place, a ray, a buffer, a float or a saved record, the
+ * others as above. */
 static uint64_t refused_call(const struct part *part, int number)
 {
     uint8_t bits[FENALUKKI_COLUMN_BYTES];
     int64_t bounds[FENALUKKI_BOUNDS];
+    uint64_t totals[FENALUKKI_TOTALS] = {0, 0, 0};
 
     switch (number) {
     case FENALUKKI_REFUSED_COORDINATE:
@@ -552,6 +584,8 @@ static uint64_t refused_call(const struct part *part, int number)
     case FENALUKKI_REFUSED_FLOAT:
         return fenalukki_viewer_first_hit(part->bytes, part->length, 0.1f, 0, 0, 1, 0, 0,
                                           FENALUKKI_ENOUGH);
+    case FENALUKKI_REFUSED_SAVED:
+        return fenalukki_restore_totals(saved, sizeof saved - 1, totals);
     default:
         return number < FENALUKKI_REFUSED_ISO ? refused_file(*part, number)
                                               : refused_write(number);
@@ -562,7 +596,7 @@ static void show_refusals(const struct part *part)
 {
     int number;
 
-    printf("\n11. Refusals\n");
+    printf("\n12. Refusals\n");
     for (number = 1; number <= FENALUKKI_REFUSALS; number++) {
         uint64_t answer = refused_call(part, number);
 
@@ -587,6 +621,7 @@ int main(void)
     show_bounds(&part);
     show_overlaps();
     show_totals(&part);
+    show_restore(&part);
     show_refusals(&part);
     return 0;
 }

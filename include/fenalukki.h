@@ -22,7 +22,7 @@
  * weight times (S/(256 r) + 1/16384), where S adds the sizes of the ray's three
  * coordinate differences and r is the point's radius, both in steps.
  *
- * The twelve entries
+ * The thirteen entries
  *
  *   fenalukki_check                      a file's node count and iso-value
  *   fenalukki_read                       the same, and the nodes' numbers
@@ -36,6 +36,7 @@
  *   fenalukki_first_hit_counted            with running totals
  *   fenalukki_column_counted
  *   fenalukki_viewer_first_hit_counted
+ *   fenalukki_restore_totals             totals from a saved record
  *
  * They are compiled from code that is proved. What is inline at the end of this
  * header (readers of the numbers, texts, rounding) is C: it is tested, and is
@@ -86,7 +87,8 @@
  *   place               of a write: the first record's offset in the buffer,
  *                       any number
  *   bounds              two numbers
- *   totals              three numbers
+ *   totals              three numbers: casts, probes and refusals
+ *   saved, saved_len    the saved record's bytes, any bytes at all
  *
  * What the caller owes
  *
@@ -94,11 +96,12 @@
  *   writing too. Nothing is read or written through a pointer whose length is
  *   0, and such a pointer may be null. bounds, totals and the numbers of a read
  *   have no length: they are never null, and valid for two, three and 3,066
- *   numbers. The file, the numbers, the buffer, bounds and totals do not
- *   overlap. Nobody else writes the file or the numbers of a write, or reads or
- *   writes what is written, during a call. The contents of totals are set
- *   beforehand; those of a buffer, of bounds and of the numbers of a read need
- *   not be.
+ *   numbers. The file, the saved record, the numbers, the buffer, bounds and
+ *   totals do not overlap. Nobody else writes the file, the saved record or the
+ *   numbers of a write, or reads or writes what is written, during a call. The
+ *   contents of totals are set beforehand, for a restore too, since it leaves
+ *   them as they are where it is refused; those of a buffer, of bounds and of
+ *   the numbers of a read need not be.
  *   In the viewer's calls the floating-point environment is the default one:
  *   exceptions masked, rounding to nearest, denormals not flushed to zero
  *   (gcc's -ffast-math, given when linking, flushes them).
@@ -110,16 +113,17 @@
  *   state, uses no heap and no global data, and writes nothing but its buffer,
  *   bounds, totals or, in a read, numbers. Calls may run at the same time on
  *   several threads, on one file too, as long as what they write differs.
- *   A cast or the bounds at a place need about 26 KiB of stack, a check, a read
- *   and a write less than 1 KiB, measured on the compiled archive; 64 KiB are
- *   tested to be enough.
+ *   A cast or the bounds at a place need about 26 KiB of stack, the other calls
+ *   less than 1 KiB, measured on the compiled archive; 64 KiB are tested to be
+ *   enough.
  *
  * The number that a call returns
  *
  *   Below 65,536 it is a refusal number; the readers at the end of this header
  *   take any other apart. A refused call leaves its buffer, bounds and numbers
- *   as they were. Each call asks its questions in this order, 6 to 10 of each
- *   node in file order; the first one answered no decides.
+ *   as they were, and a restore its totals. Each call asks its questions in
+ *   this order, 6 to 10 of each node in file order; the first one answered no
+ *   decides.
  *
  *     a check, a read             1 to 11
  *     a write                     16, then 5 to 11 of what is given, then 17
@@ -127,6 +131,7 @@
  *     a first hit                 1 to 13
  *     a full cast, a column       1 to 14
  *     a viewer's first hit        1 to 11, then 15, then 13
+ *     a saved record              18
  *
  *    1  Is the file 24 to 65,536 bytes long?
  *    2  Are its last four bytes hexadecimal 54 52 45 45?
@@ -149,6 +154,7 @@
  *   16  Is the count of numbers a multiple of six from 6 to 3,066?
  *   17  Do records and trailer, 12 bytes a node and 12, end within the buffer
  *       and by byte 65,536 of it?
+ *   18  Is the saved record exactly 12 bytes long?
  *
  * What a call costs
  *
@@ -159,6 +165,15 @@
  *   by callgrind, which is 67 for a probe and record; no call tried took more.
  *   With 255 sums it takes 66 million. A smaller budget makes fewer probes and
  *   so bounds a call's time. docs/BENCHMARKS.md has the figures of other parts.
+ *
+ * Coming from version 1
+ *
+ *   A host that makes counted calls keeps, copies, prints and saves its totals
+ *   as uint64_t, no longer as uint32_t, and is compiled again: a linker does
+ *   not see the difference, and 24 bytes are written where 12 were lent. What
+ *   version 1 saved is read by fenalukki_restore_totals; a host that saves its
+ *   totals tells it from what it saves now, by the length for one. Nothing
+ *   changes for a host that makes no counted call.
  *
  * Platform
  *
@@ -179,10 +194,10 @@
 
 /* The version of this header and of the archive beside it. The major number
  * changes where a host has to change, the minor where names are added. */
-#define FENALUKKI_VERSION_MAJOR 1
-#define FENALUKKI_VERSION_MINOR 2
+#define FENALUKKI_VERSION_MAJOR 2
+#define FENALUKKI_VERSION_MINOR 0
 #define FENALUKKI_VERSION_PATCH 0
-#define FENALUKKI_VERSION "1.2.0"
+#define FENALUKKI_VERSION "2.0.0"
 #define FENALUKKI_VERSION_NUMBER \
     (FENALUKKI_VERSION_MAJOR * 10000 + FENALUKKI_VERSION_MINOR * 100 + FENALUKKI_VERSION_PATCH)
 
@@ -190,7 +205,7 @@
 #define FENALUKKI_TICKS 1024
 #define FENALUKKI_MARKS_BYTES 1024 /* the buffer of a full cast */
 #define FENALUKKI_COLUMN_BYTES 128 /* the buffer of a column */
-#define FENALUKKI_ENOUGH 2047 /* a budget that no cast exceeds */
+#define FENALUKKI_ENOUGH 2047 /* the most probes of a cast: a budget for any */
 #define FENALUKKI_STEPS_PER_MM 64
 #define FENALUKKI_COORDINATE_MAX 2047 /* in steps; the least is its negative */
 
@@ -241,12 +256,14 @@
 #define FENALUKKI_BOUNDS_HIGH 1
 #define FENALUKKI_BOUNDS_ONE ((int64_t)1 << 32)
 
-/* The running totals: how many, which is which, and where each one stays. */
+/* The running totals: how many, which is which, where each one stays, and the
+ * bytes of a saved record. */
 #define FENALUKKI_TOTALS 3
 #define FENALUKKI_TOTALS_CASTS 0
 #define FENALUKKI_TOTALS_PROBES 1
 #define FENALUKKI_TOTALS_REFUSALS 2
-#define FENALUKKI_TOTALS_MAX 4294967295u
+#define FENALUKKI_TOTALS_MAX UINT64_C(18446744073709551615) /* 2^64 - 1 */
+#define FENALUKKI_SAVED_BYTES 12
 
 /* Refusal numbers, and the greatest of them. */
 #define FENALUKKI_REFUSED_LENGTH 1
@@ -266,7 +283,8 @@
 #define FENALUKKI_REFUSED_FLOAT 15
 #define FENALUKKI_REFUSED_NUMBERS 16
 #define FENALUKKI_REFUSED_WRITE_ROOM 17
-#define FENALUKKI_REFUSALS 17
+#define FENALUKKI_REFUSED_SAVED 18
+#define FENALUKKI_REFUSALS 18
 
 #ifdef __cplusplus
 extern "C" {
@@ -431,33 +449,62 @@ uint64_t fenalukki_viewer_first_hit(const uint8_t *file, size_t file_len,
  *   totals[1]   probes: the call's probes more, unless refused
  *   totals[2]   refusals: one more, if refused
  *
- * A total that would pass 4,294,967,295 becomes that number and stays there;
- * the others go on. The totals are the host's: it sets them to 0 beforehand.
+ * A total that would pass 2^64 - 1 = 18,446,744,073,709,551,615 becomes that
+ * number and stays there; the others go on. The totals are the host's: it sets
+ * them to 0 beforehand, or restores them by the call after these.
+ *
+ * The totals can be checked by a rule. From 0 on, where these calls alone have
+ * changed them and no saved record was read, the probes are at most 2,047 times
+ * the casts, while no total has reached its ceiling and afterwards too. In C
+ * that product can wrap; totals[1] / 2047 <= totals[0], which follows, cannot.
  */
 uint32_t fenalukki_full_cast_counted(const uint8_t *file, size_t file_len,
                                      int32_t ax, int32_t ay, int32_t az,
                                      int32_t bx, int32_t by, int32_t bz,
                                      uint32_t budget,
                                      uint8_t *marks, size_t marks_len,
-                                     uint32_t totals[3]);
+                                     uint64_t totals[3]);
 
 uint64_t fenalukki_first_hit_counted(const uint8_t *file, size_t file_len,
                                      int32_t ax, int32_t ay, int32_t az,
                                      int32_t bx, int32_t by, int32_t bz,
                                      uint32_t budget,
-                                     uint32_t totals[3]);
+                                     uint64_t totals[3]);
 
 uint32_t fenalukki_column_counted(const uint8_t *file, size_t file_len,
                                   int32_t ax, int32_t ay, int32_t az,
                                   int32_t bx, int32_t by, int32_t bz,
                                   uint8_t *bits, size_t bits_len,
-                                  uint32_t totals[3]);
+                                  uint64_t totals[3]);
 
 uint64_t fenalukki_viewer_first_hit_counted(const uint8_t *file, size_t file_len,
                                             float ax, float ay, float az,
                                             float bx, float by, float bz,
                                             uint32_t budget,
-                                            uint32_t totals[3]);
+                                            uint64_t totals[3]);
+
+/*
+ * Restore of totals: a saved record takes the place of what they were, and what
+ * was counted until then is lost.
+ *
+ * A saved record is 12 bytes: casts, probes and refusals, 32 bits each,
+ * little-endian. It is what a host of version 1 had in memory as
+ * uint32_t totals[3].
+ *
+ * Returns
+ *   18         the refusal number: the saved record is not exactly 12 bytes
+ *   65,536     totals[0] is the record's casts, totals[1] its probes and
+ *              totals[2] its refusals
+ *
+ * Each number is unchanged, 4,294,967,295 too, which then means this many or
+ * more, since a total of 32 bits stayed there. The counted calls go on from it.
+ * Refused, the call leaves the totals as they were; its refusal is not counted.
+ *
+ * Totals of 64 bits are the host's to save and to set again: their 24 bytes are
+ * no saved record, and refused.
+ */
+uint32_t fenalukki_restore_totals(const uint8_t *saved, size_t saved_len,
+                                  uint64_t totals[3]);
 
 #ifdef __cplusplus
 }
@@ -582,7 +629,8 @@ static inline const char *fenalukki_refusal_text(uint64_t number)
         "the buffer is smaller than 1,024 bytes for marks or 128 for a column",
         "a float in millimetres is not a multiple of 1/64 from -2,047/64 to 2,047/64",
         "the count of numbers is not a multiple of six from 6 to 3,066",
-        "records and trailer do not end within the buffer and by byte 65,536"
+        "records and trailer do not end within the buffer and by byte 65,536",
+        "the saved record is not exactly 12 bytes long"
     };
 
     if (number >= 65536)

@@ -79,7 +79,7 @@ fn header_entries() -> BTreeMap<String, Entry> {
 fn the_header_declares_what_the_crate_exports() {
     let exported = rattle_entries(&read("crates/fenalukki/src/lib.rt"));
     assert_eq!(header_entries(), exported);
-    assert_eq!(exported.len(), 12);
+    assert_eq!(exported.len(), 13);
 }
 
 /// A header that differs in one word is told apart.
@@ -96,7 +96,9 @@ fn a_drift_of_the_header_is_seen() {
         ),
         ("int64_t bounds[2]", "int64_t bounds[3]"),
         ("int64_t bounds[2]", "int64_t *bounds"),
-        ("uint32_t totals[3]", "uint64_t totals[3]"),
+        ("uint64_t totals[3])", "uint64_t totals[4])"),
+        ("const uint8_t *saved", "uint8_t *saved"),
+        ("size_t saved_len", "uint32_t saved_len"),
         ("float ax, float ay", "float ax, double ay"),
         ("size_t marks_len", "uint32_t marks_len"),
         ("uint8_t *marks", "const uint8_t *marks"),
@@ -117,6 +119,25 @@ fn a_drift_of_the_header_is_seen() {
         assert!(header.contains(from), "{from}");
         let drifted = c_entries(&header.replacen(from, to, 1));
         assert_ne!(drifted, entries, "{from} to {to}");
+    }
+}
+
+/// Totals have 64 bits in each entry of the header and of the crate that is lent them, and a header that has 32 in one is told apart.
+#[test]
+fn totals_of_64_bits() {
+    let header = read("include/fenalukki.h");
+    let exported = rattle_entries(&read("crates/fenalukki/src/lib.rt"));
+    let totals = ("totals".to_string(), "uint64_t [3]".to_string());
+    for (name, entry) in c_entries(&header).iter().chain(&exported) {
+        let lent = name.ends_with("_counted") || name.ends_with("_totals");
+        assert_eq!(entry.parameters.contains(&totals), lent, "{name}");
+    }
+    let places: Vec<_> = header.match_indices("uint64_t totals[3])").collect();
+    assert_eq!(places.len(), 5);
+    for (at, _) in places {
+        let mut drifted = header.clone();
+        drifted.replace_range(at..at + 8, "uint32_t");
+        assert_ne!(c_entries(&drifted), exported);
     }
 }
 
@@ -241,6 +262,16 @@ fn the_names_of_numbers() {
     assert_eq!(named("WRITE_BYTES_MAX"), bytes);
 }
 
+/// The three totals in their order, each total's ceiling, and the bytes of a saved record, 32 bits a total.
+#[test]
+fn the_names_of_totals() {
+    let order = ["CASTS", "PROBES", "REFUSALS"].map(|name| named(&format!("TOTALS_{name}")));
+    assert_eq!((named("TOTALS"), order), (3, [0, 1, 2]));
+    let ceiling = format!("#define FENALUKKI_TOTALS_MAX UINT64_C({}) ", u64::MAX);
+    assert!(read("include/fenalukki.h").contains(&ceiling));
+    assert_eq!(named("SAVED_BYTES"), 3 * u32::BITS / 8);
+}
+
 /// The words of a line of `readers.c` for a call's number.
 const REFUSAL: usize = 0;
 const PROBES: usize = 1;
@@ -322,7 +353,7 @@ fn write(end: u32) -> Reading {
 }
 
 fn readings() -> Vec<Reading> {
-    let mut all: Vec<Reading> = (1..=17).map(refused).collect();
+    let mut all: Vec<Reading> = (1..=18).map(refused).collect();
     all.extend([24, 25, 255, 256, 6144, 65_535, 65_536].map(write));
     for probes in [0, 1, 15, 255, 256, 2046, 2047] {
         all.extend(casts(probes));
@@ -397,17 +428,17 @@ fn the_width_of_the_bounds_at_a_place() {
 /// Each refusal number has a text of its own.
 #[test]
 fn refusal_texts() {
-    let numbers = (0..=17).chain([18, 65_535, 65_536, 65_575, 1 << 32]);
+    let numbers = (0..=18).chain([19, 65_535, 65_536, 65_575, 1 << 32]);
     let input: String = numbers.map(|n: u64| format!("n {n:x}\n")).collect();
     for program in readers("texts") {
         let output = printed(&program, &input);
         let texts = output.lines().map(|line| line.splitn(12, ' ').last());
         let texts: Vec<&str> = texts.map(|text| text.expect("a text")).collect();
-        let own: BTreeSet<&str> = texts[1..=17].iter().copied().collect();
-        assert_eq!(own.len(), 17);
+        let own: BTreeSet<&str> = texts[1..=18].iter().copied().collect();
+        assert_eq!(own.len(), 18);
         assert!(!own.contains("no refusal number") && !own.contains("not refused"));
-        assert_eq!([texts[0], texts[18], texts[19]], ["no refusal number"; 3]);
-        assert_eq!(texts[20..], ["not refused"; 3]);
+        assert_eq!([texts[0], texts[19], texts[20]], ["no refusal number"; 3]);
+        assert_eq!(texts[21..], ["not refused"; 3]);
     }
 }
 
@@ -498,6 +529,39 @@ fn the_tour() {
     }
 }
 
+/// The three numbers of a saved record whose bytes are listed in C.
+fn saved_numbers(listed: &str) -> [u64; 3] {
+    let bytes = listed.split(',').map(|byte| byte.trim().strip_prefix("0x"));
+    let bytes = bytes.map(|byte| u64::from_str_radix(byte.expect("a byte"), 16));
+    let bytes: Vec<u64> = bytes.map(|byte| byte.expect("a byte")).collect();
+    assert_eq!(bytes.len(), 12);
+    [0, 4, 8].map(|at| (0..4).map(|i| bytes[at + i] << (8 * i)).sum())
+}
+
+/// The totals that the tour restores are the numbers in the bytes of its saved record; a column, of as many probes as the full cast, adds to
+/// them, and a record of 11 bytes changes nothing.
+#[test]
+fn the_saved_record_of_the_tour() {
+    let (source, printed) = (read("examples/tour.c"), read("examples/tour.out"));
+    let bytes = section(&source, "saved[FENALUKKI_SAVED_BYTES] = {", "}");
+    let [casts, probes, refusals] = saved_numbers(bytes);
+    assert_eq!(probes, u32::MAX.into());
+    let more = section(&printed, "budget 2047: ", " probes");
+    let more: u64 = more.parse().expect("a number");
+    let before = format!("casts {casts}, probes {probes}, refusals {refusals}");
+    let (casts, probes) = (casts + 1, probes + more);
+    let after = format!("casts {casts}, probes {probes}, refusals {refusals}");
+    let lines = [
+        "12 bytes: read",
+        &format!("  the totals: {before}"),
+        &format!("a column: {after}"),
+        "11 bytes: refused 18, the saved record is not exactly 12 bytes long",
+        &format!("  the totals: {after}"),
+    ];
+    let shown = section(&printed, "\n11. A saved record\n", "\n\n12. ");
+    assert_eq!(shown, lines.join("\n"));
+}
+
 /// What the tour prints with some words replaced.
 fn edited_tour(name: &str, edits: &[(&str, &str)]) -> String {
     let source = temporary(&format!("{name}.c"));
@@ -520,7 +584,7 @@ fn a_tour_of_a_refused_part() {
     let edits = [(end, &no_iso[..]), (check, "show_check(&part);")];
     let output = edited_tour("spoiled_tour", &edits);
     let sections: Vec<&str> = output.split("\n\n").collect();
-    assert_eq!(sections.len(), 12);
+    assert_eq!(sections.len(), 13);
     let counts = [1, 1, 1, 1, 3, 4, 3, 4, 6];
     for (section, refused) in sections[1..10].iter().zip(counts) {
         let lines = section.lines().rev().take(refused);

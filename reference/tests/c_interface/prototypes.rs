@@ -49,7 +49,7 @@ fn without_bodies(text: &str) -> String {
     text.chars().filter_map(keep).collect()
 }
 
-/// `uint32_t totals[3]` as its name and `uint32_t [3]`, `const uint8_t *file` as its name and `const uint8_t *`.
+/// `uint64_t totals[3]` as its name and `uint64_t [3]`, `const uint8_t *file` as its name and `const uint8_t *`.
 fn c_parameter(text: &str) -> (String, String) {
     let text = spaced(text);
     let (declared, size) = match text.split_once('[') {
@@ -92,7 +92,7 @@ fn c_number(kind: &str) -> String {
     }
 }
 
-/// The C parameters of what is lent: `[u8]` or `[u32; 3]`.
+/// The C parameters of what is lent: `[u8]` or `[u64; 3]`.
 fn c_lent(name: &str, lent: &str, qualifier: &str) -> Vec<(String, String)> {
     let inner = lent.trim_matches(['[', ']']);
     match inner.split_once(';') {

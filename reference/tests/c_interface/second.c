@@ -3,8 +3,12 @@
 #include "fenalukki.h"
 #include "fenalukki.h"
 
-#if FENALUKKI_VERSION_NUMBER < 10000 || FENALUKKI_REFUSED_WRITE_ROOM != FENALUKKI_REFUSALS || FENALUKKI_TOTALS_MAX != 0xffffffff
+#if FENALUKKI_VERSION_NUMBER < 20000 || FENALUKKI_REFUSED_SAVED != FENALUKKI_REFUSALS
 #error "names of fenalukki.h do not agree"
+#endif
+
+#if FENALUKKI_TOTALS_MAX != 0xffffffffffffffff || FENALUKKI_SAVED_BYTES != 4 * FENALUKKI_TOTALS
+#error "names of totals do not agree"
 #endif
 
 enum { MARKS = FENALUKKI_MARKS_BYTES };
@@ -13,7 +17,7 @@ static const int64_t most_field = FENALUKKI_WEIGHT_MAX * FENALUKKI_BOUNDS_ONE;
 
 int second_unit(uint64_t number);
 
-/* 1 to 17 for a refusal number, 20 for any other number. */
+/* 1 to 18 for a refusal number, 20 for any other number. */
 int second_unit(uint64_t number)
 {
     static uint8_t marks[MARKS];
@@ -36,6 +40,7 @@ int second_unit(uint64_t number)
     case FENALUKKI_REFUSED_FLOAT:
     case FENALUKKI_REFUSED_NUMBERS:
     case FENALUKKI_REFUSED_WRITE_ROOM:
+    case FENALUKKI_REFUSED_SAVED:
         return fenalukki_refusal(number);
     default:
         return most_field >> 32 == FENALUKKI_WEIGHT_MAX ? 20 + marks[0] : 0;
