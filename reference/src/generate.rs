@@ -1,9 +1,10 @@
-//! Repeatable pseudo-random trees, rays, damaged files and totals for tests.
+//! Repeatable pseudo-random trees, rays, damaged files, totals and saved records
+//! for tests.
 
 use crate::field::Ray;
 use crate::part::{operator_record, point_record, FileBuilder, Kind, Node, Part};
 use crate::part::{FILE_MARK, OPERATORS, REACH};
-use crate::totals::Totals;
+use crate::totals::{Totals, CEILING};
 
 /// The SplitMix64 generator.
 #[derive(Clone, Debug)]
@@ -462,15 +463,25 @@ pub fn mutate(random: &mut SplitMix64, file: &mut Vec<u8>) {
     }
 }
 
-/// Totals, each near the ceiling once in four.
+/// Totals, each near 0, around 2^32, near the ceiling or any number.
 pub fn totals(random: &mut SplitMix64) -> Totals {
-    let [casts, probes, refusals] = [(); 3].map(|()| match random.one_in(4) {
-        true => u32::MAX - random.between(0, 40) as u32,
-        false => random.next_u64() as u32,
+    Totals::from([(); 3].map(|()| {
+        let near = random.between(0, 40) as u64;
+        let any = random.next_u64();
+        random.pick(&[near, (1 << 32) - 20 + near, CEILING - near, any])
+    }))
+}
+
+/// A saved record, its numbers at a limit of 32 bits or any; of another length
+/// once in two.
+pub fn saved_record(random: &mut SplitMix64) -> Vec<u8> {
+    let numbers = [(); 3].map(|()| {
+        let any = random.next_u64() as u32;
+        random.pick(&[0, 1, u32::MAX - 1, u32::MAX, any, any, any])
     });
-    Totals {
-        casts,
-        probes,
-        refusals,
-    }
+    let mut bytes: Vec<u8> = numbers.into_iter().flat_map(u32::to_le_bytes).collect();
+    let any = random.between(0, 24) as usize;
+    let length = random.pick(&[12, 12, 12, 12, 0, 11, 13, any]);
+    bytes.resize(length, random.next_u64() as u8);
+    bytes
 }

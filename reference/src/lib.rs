@@ -10,8 +10,8 @@
 //! - [`cast`]: bounds at a place, full cast, first hit and column.
 //! - [`view`]: the viewer's first hit.
 //! - [`lister`]: the ray lister's text.
-//! - [`totals`]: the running totals.
-//! - [`generate`]: repeatable pseudo-random trees, rays and damaged files.
+//! - [`totals`]: the running totals, and saved records of them.
+//! - [`generate`]: repeatable pseudo-random trees, rays, damaged files and totals.
 
 #![forbid(unsafe_code)]
 #![warn(missing_docs)]

@@ -4,14 +4,21 @@ use std::fs;
 use std::os::unix::fs::PermissionsExt;
 use std::path::{Path, PathBuf};
 use std::process::Command;
+use std::sync::{Mutex, MutexGuard, PoisonError};
 use std::time::{Duration, SystemTime};
+
+/// One repository at a time: a process that is started while a script is being written keeps that file open for a moment, and the
+/// script does not run then.
+static TURN: Mutex<()> = Mutex::new(());
 
 struct Repository {
     root: PathBuf,
+    _turn: MutexGuard<'static, ()>,
 }
 
 impl Repository {
     fn new(name: &str) -> Self {
+        let _turn = TURN.lock().unwrap_or_else(PoisonError::into_inner);
         let root = std::env::temp_dir().join(format!("build-{name}-{}", std::process::id()));
         let _ = fs::remove_dir_all(&root);
         for folder in ["src", "specs", "proofs/f", "must-fail"] {
@@ -19,7 +26,7 @@ impl Repository {
         }
         fs::create_dir_all(root.join("target/bin")).expect("a folder");
         fs::create_dir_all(root.join("path")).expect("a folder");
-        let repository = Self { root };
+        let repository = Self { root, _turn };
         let script = Path::new(env!("CARGO_MANIFEST_DIR")).join("../build");
         fs::copy(script, repository.root.join("build")).expect("the script");
         repository.write(

@@ -263,6 +263,8 @@ fn a_stack_of_64_kib() {
         let counted_viewer = entries::viewer_first_hit_counted(&file, &view, 2047, &mut totals);
         assert_eq!([counted, viewer, counted_viewer], [hit; 3]);
         assert_eq!((totals[0], totals[2]), (4, 0));
+        assert_eq!(entries::restore_totals(&[0; 12], &mut totals), 65_536);
+        assert_eq!(totals, [0; 3]);
         assert_eq!(entries::check(&file) >> 16, 65_536 + 511);
         assert_eq!(entries::place_bounds(&file, ray.a, &mut bounds), 65_536);
         read_and_write(&file);

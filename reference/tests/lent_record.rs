@@ -1,29 +1,45 @@
 //! What no host in C needs, through the entries of `crates/testhost`: the calls
-//! that are handed the totals as a record, and the viewer's answer with its
-//! place as a float.
+//! that are handed the totals as a record, at their limits and in sequences, saved
+//! records read into such a record, and the viewer's answer with its place as a
+//! float.
 
+#[path = "common/calls.rs"]
+mod calls;
+#[path = "common/coverage.rs"]
+mod coverage;
 #[path = "common/expected.rs"]
 mod expected;
 #[path = "common/floats.rs"]
 mod floats;
 #[path = "common/guards.rs"]
 mod guards;
+#[path = "common/limits.rs"]
+mod limits;
 #[path = "common/requests.rs"]
 mod requests;
+#[path = "common/saved.rs"]
+mod saved;
+#[path = "common/sequences.rs"]
+mod sequences;
+#[path = "common/worked.rs"]
+mod worked;
 
 #[cfg(not(test_archive))]
 compile_error!(
     "target/staticlib/libtesthost.a is missing: build it at the repository's root by: rt staticlib testhost"
 );
 
+use calls::{Call, Request};
+use coverage::Coverage;
 use expected::{answered, number_and_place};
-use floats::changed;
-use guards::in_guards;
+use guards::{in_guards, lent};
+use limits::assert_each_limit;
 use reference::field::Ray;
-use reference::generate::{self, part_of_form, SplitMix64, FORMS};
+use reference::generate::{self, SplitMix64};
 use reference::totals::Totals;
-use reference::view::{in_millimetres, viewer_first_hit, ViewRay};
-use requests::{file, ray, GROUPS};
+use reference::view::{viewer_first_hit, ViewRay};
+use saved::{assert_drawn, assert_listed};
+use sequences::{assert_from_every_start, assert_with_saved_records};
 
 #[link(name = "testhost", kind = "static")]
 extern "C" {
@@ -40,7 +56,7 @@ extern "C" {
         budget: u32,
         buffer: *mut u8,
         buffer_len: usize,
-        totals: *mut u32,
+        totals: *mut u64,
     ) -> u64;
 
     fn testhost_view(
@@ -54,8 +70,10 @@ extern "C" {
         bz: f32,
         budget: u32,
         place: *mut f32,
-        totals: *mut u32,
+        totals: *mut u64,
     ) -> u64;
+
+    fn testhost_restore(saved: *const u8, saved_len: usize, totals: *mut u64) -> u32;
 }
 
 /// What k counts in a number.
@@ -69,7 +87,7 @@ fn call(
     ray: &Ray,
     budget: u32,
     buffer: &mut [u8],
-    totals: &mut [u32; 3],
+    totals: &mut [u64; 3],
 ) -> u64 {
     let ([ax, ay, az], [bx, by, bz]) = (ray.a, ray.b);
     let (at, len) = (file.as_ptr(), file.len());
@@ -84,7 +102,7 @@ fn call(
 }
 
 /// The number of a viewer's first hit, k * 2^32 + probes, and its place.
-fn view(file: &[u8], ray: &ViewRay, budget: u32, totals: &mut [u32; 3]) -> (u64, f32) {
+fn view(file: &[u8], ray: &ViewRay, budget: u32, totals: &mut [u64; 3]) -> (u64, f32) {
     let ([ax, ay, az], [bx, by, bz]) = (ray.a, ray.b);
     let (at, len) = (file.as_ptr(), file.len());
     let mut place = [f32::NAN];
@@ -94,67 +112,106 @@ fn view(file: &[u8], ray: &ViewRay, budget: u32, totals: &mut [u32; 3]) -> (u64,
     (number, place[0])
 }
 
-fn three(totals: Totals) -> [u32; 3] {
-    [totals.casts, totals.probes, totals.refusals]
+/// The number of a saved record.
+fn restore(saved: &[u8], totals: &mut [u64; 3]) -> u32 {
+    let sums = totals.as_mut_ptr();
+    // SAFETY: both pointers are valid for their lengths and do not overlap.
+    unsafe { testhost_restore(saved.as_ptr(), saved.len(), sums) }
 }
 
-/// Compares a call; whether it is refused.
+/// Compares a full cast, first hit or column; its number, and its probes or `None`
+/// if refused.
 fn compare_call(
     file: &[u8],
     which: u32,
     ray: &Ray,
     budget: u32,
     room: usize,
-    totals: Totals,
-) -> bool {
-    let mut after = three(totals);
-    let found = in_guards(room, |b| call(file, which, ray, budget, b, &mut after));
+    totals: &mut Totals,
+) -> (u64, Option<u32>) {
+    let (found, after) = lent(*totals, |t| {
+        in_guards(room, |b| call(file, which, ray, budget, b, t))
+    });
     let ((number, probes), bytes) = in_guards(room, |b| answered(file, which, ray, budget, b));
+    *totals = totals.after(probes);
     let request = || format!("{which} {ray:?} {budget} {room} {file:?}");
     assert_eq!(found, (number, bytes), "{}", request());
-    assert_eq!(after, three(totals.after(probes)), "{}", request());
-    probes.is_none()
+    assert_eq!(after, *totals, "{}", request());
+    (number, probes)
 }
 
-/// Compares a viewer's first hit; its k, 0 if it is refused.
-fn compare_view(file: &[u8], ray: &ViewRay, budget: u32, totals: Totals) -> u64 {
-    let mut after = three(totals);
-    let (number, place) = view(file, ray, budget, &mut after);
+/// Compares a viewer's first hit; its number, and its probes or `None` if refused.
+fn compare_view(
+    file: &[u8],
+    ray: &ViewRay,
+    budget: u32,
+    totals: &mut Totals,
+) -> (u64, Option<u32>) {
+    let ((number, place), after) = lent(*totals, |t| view(file, ray, budget, t));
     let answer = viewer_first_hit(file, *ray, budget);
     let (with_tick, expected) = number_and_place(answer);
     let (k, probes) = (with_tick / CASE, with_tick % 65_536);
+    *totals = totals.after(answer.probes());
     let request = || format!("{ray:?} {budget} {file:?}");
     assert_eq!(number, k * CASE + probes, "{}", request());
     assert_eq!(place.to_bits(), expected.to_bits(), "{}", request());
-    assert_eq!(after, three(totals.after(answer.probes())), "{}", request());
-    k
+    assert_eq!(after, *totals, "{}", request());
+    (number, answer.probes())
 }
 
-/// 4,000 calls of each, and how they were answered.
+/// Compares a call with the reference; its number, and its probes or `None` if
+/// refused.
+fn compare(request: &Request, totals: &mut Totals) -> (u64, Option<u32>) {
+    let (file, budget) = (&request.file, request.budget);
+    match &request.call {
+        Call::Steps { which, ray, room } => compare_call(file, *which, ray, budget, *room, totals),
+        Call::View(ray) => compare_view(file, ray, budget, totals),
+    }
+}
+
+/// Those probes alone.
+fn compare_probes(request: &Request, totals: &mut Totals) -> Option<u32> {
+    compare(request, totals).1
+}
+
+/// Drawn calls, each with drawn totals; the viewer's by k, 0 if refused.
 #[test]
 fn the_record_and_the_place_are_the_references() {
     let mut random = SplitMix64::new(141);
-    let mut refused = [[0; 2]; 3];
+    let mut coverage = Coverage::default();
     let mut views = [0; 5];
-    for i in 0..16_000 {
-        let (_, shape) = random.pick(&GROUPS[..6]);
-        let form = random.pick(&FORMS);
-        let part = part_of_form(&mut random, &shape, form);
-        let file = file(&mut random, &part);
-        let ray = ray(&mut random, &part);
-        let budget = random.pick(&[0, 1, 5, 14, 40, 2047, u32::MAX]);
-        let room = random.pick(&[0, 127, 128, 1023, 1024, 1024, 1024, 1200]);
-        let totals = generate::totals(&mut random);
-        let which = i % 4;
-        if which == 3 {
-            let ray = changed(&mut random, &in_millimetres(&ray)).0;
-            views[compare_view(&file, &ray, budget, totals) as usize] += 1;
-        } else {
-            let no = compare_call(&file, which, &ray, budget, room, totals);
-            refused[which as usize][usize::from(no)] += 1;
+    for _ in 0..16_000 {
+        let request = Request::new(&mut random);
+        let before = generate::totals(&mut random);
+        let mut totals = before;
+        let (number, probes) = compare(&request, &mut totals);
+        coverage.count(&request, before, probes);
+        if let Call::View(_) = request.call {
+            views[(number / CASE) as usize] += 1;
         }
     }
-    println!("answered and refused, by call: {refused:?}; viewer's by k: {views:?}");
-    assert!(refused.iter().flatten().all(|&n| n > 400));
+    println!("viewer's by k: {views:?}");
     assert!(views.iter().all(|&n| n > 200));
+    coverage.assert_populated([300, 4, 600, 4, 4]);
+}
+
+#[test]
+fn each_call_at_each_limit() {
+    assert_each_limit(compare_probes);
+}
+
+#[test]
+fn calls_from_every_start() {
+    assert_from_every_start(compare_probes, 143);
+}
+
+#[test]
+fn saved_records_among_the_calls() {
+    assert_with_saved_records(compare_probes, restore, 144);
+}
+
+#[test]
+fn saved_records_are_read_into_the_record() {
+    assert_listed(restore);
+    assert_drawn(restore, 142);
 }

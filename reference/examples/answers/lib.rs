@@ -6,6 +6,7 @@ mod expected;
 
 use reference::cast;
 use reference::field::Ray;
+use reference::totals::Totals;
 use reference::view::ViewRay;
 use reference::write::MOST_NUMBERS;
 use std::slice;
@@ -187,4 +188,22 @@ pub unsafe extern "C" fn reference_read(
 ) -> u64 {
     let numbers = slice::from_raw_parts_mut(numbers, MOST_NUMBERS);
     expected::read_number(bytes(file, file_len), numbers)
+}
+
+/// The number of a saved record.
+///
+/// # Safety
+///
+/// As the header says of `fenalukki_restore_totals`.
+#[no_mangle]
+pub unsafe extern "C" fn reference_restore_totals(
+    saved: *const u8,
+    saved_len: usize,
+    totals: *mut u64,
+) -> u32 {
+    let three = &mut *totals.cast::<[u64; 3]>();
+    let mut record = Totals::from(*three);
+    let number = expected::restore_number(bytes(saved, saved_len), &mut record);
+    *three = record.into();
+    number
 }

@@ -5,14 +5,16 @@ use crate::drawings::{self, placed, Drawing};
 use crate::floats::changed;
 use crate::request::{casting, is_counted, need, six};
 use crate::request::{Request, BOUNDS, CHECK, COLUMN, COUNTED, FIRST_HIT, FULL_CAST};
-use crate::request::{READ, VIEW, WRITE};
+use crate::request::{READ, RESTORE, VIEW, WRITE};
 use crate::requests;
-use reference::generate::{cancelling_or_bored, part_of_form, totals, SplitMix64, FORMS};
+use reference::generate::{cancelling_or_bored, part_of_form, SplitMix64, FORMS};
+use reference::generate::{saved_record, totals};
 use reference::part::{FileBuilder, Part};
+use reference::totals::{Totals, CEILING, SAVED_BYTES};
 use reference::view::in_millimetres;
 
 /// The calls, each as often as it is drawn.
-const DRAWN: [u8; 20] = [
+const DRAWN: [u8; 21] = [
     FULL_CAST,
     FULL_CAST,
     FULL_CAST,
@@ -33,15 +35,41 @@ const DRAWN: [u8; 20] = [
     WRITE,
     WRITE,
     READ,
+    RESTORE,
 ];
 
-/// A request on a damaged file or drawing, or on a whole one.
+/// A request on a damaged file, drawing or saved record, or on a whole one.
 pub fn drawn(random: &mut SplitMix64, on_damaged: bool) -> Request {
     let part = part(random);
-    match random.pick(&DRAWN) {
+    let request = match random.pick(&DRAWN) {
         WRITE => write(random, &part, on_damaged),
+        RESTORE => restore(random, on_damaged),
         call => of_file(random, &part, call, on_damaged),
+    };
+    lent(random, request.answered())
+}
+
+/// The answered request, lent totals if the call uses them.
+pub fn lent(random: &mut SplitMix64, mut request: Request) -> Request {
+    if is_counted(request.call) || request.call == RESTORE {
+        request.totals = totals_for(random, request.added());
     }
+    request
+}
+
+/// Totals to which so much is added: each once in two at a limit, or where the
+/// sum is a limit or next to it.
+fn totals_for(random: &mut SplitMix64, added: Totals) -> Totals {
+    let [drawn, added] = [totals(random), added].map(<[u64; 3]>::from);
+    Totals::from([0, 1, 2].map(|i| {
+        let limit = random.pick(&[u32::MAX.into(), CEILING]);
+        let to_limit = limit - added[i];
+        let at_limit = [limit, to_limit - 1, to_limit, to_limit.saturating_add(1)];
+        match random.one_in(2) {
+            true => random.pick(&at_limit),
+            false => drawn[i],
+        }
+    }))
 }
 
 /// A write of the part.
@@ -52,15 +80,28 @@ fn write(random: &mut SplitMix64, part: &Part, on_damaged: bool) -> Request {
         false => whole,
     };
     let (place, room) = placed(random, drawing.bytes());
-    let request = Request {
+    Request {
         call: WRITE,
         damaged: on_damaged,
         drawing,
         room,
         place,
         ..Request::default()
-    };
-    request.answered()
+    }
+}
+
+/// A saved record, of 12 bytes unless damaged.
+fn restore(random: &mut SplitMix64, on_damaged: bool) -> Request {
+    let mut saved = saved_record(random);
+    if !on_damaged {
+        saved.resize(SAVED_BYTES, 0);
+    }
+    Request {
+        call: RESTORE,
+        damaged: on_damaged,
+        saved,
+        ..Request::default()
+    }
 }
 
 /// A call that is handed a file of the part.
@@ -79,10 +120,7 @@ fn of_file(random: &mut SplitMix64, part: &Part, call: u8, on_damaged: bool) -> 
     };
     let count = request.probes().unwrap_or(1);
     request.budget = requests::budget(random.between(0, 6) as usize, count);
-    if is_counted(call) {
-        request.totals = totals(random);
-    }
-    request.answered()
+    request
 }
 
 /// A part of one of the groups, each as often as its number says, or one that

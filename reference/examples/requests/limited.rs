@@ -1,6 +1,6 @@
-//! What the seventeen questions limit, and the limits.
+//! What the eighteen questions limit, and the limits.
 
-use crate::request::{casting, BOUNDS, COLUMN, FULL_CAST, VIEW, WRITE};
+use crate::request::{casting, BOUNDS, COLUMN, FULL_CAST, RESTORE, VIEW, WRITE};
 use std::ops::RangeInclusive;
 
 /// A number of a request that a question limits, or several of one kind; also
@@ -41,6 +41,7 @@ pub enum What {
     End,
     RoomLeft,
     Sum,
+    SavedLength,
 }
 
 /// The question about it, and the limits.
@@ -73,7 +74,7 @@ const fn one(
         members: 1,
         range,
         limits,
-        asks: |call| call != WRITE,
+        asks: |call| call != WRITE && call != RESTORE,
     }
 }
 
@@ -85,6 +86,10 @@ impl Limited {
 
     const fn in_a_write(self) -> Limited {
         self.asked_by(|call| call == WRITE)
+    }
+
+    const fn of_nodes(self) -> Limited {
+        self.asked_by(|call| call != RESTORE)
     }
 
     const fn asked_by(mut self, asks: fn(u8) -> bool) -> Limited {
@@ -108,7 +113,7 @@ fn in_steps(call: u8) -> bool {
 
 /// All that is limited, in the questions' order.
 #[rustfmt::skip]
-pub const ALL: [Limited; 34] = [
+pub const ALL: [Limited; 35] = [
     one(What::Length, 1, "the file's length", 24..=65_536, &[[24, 23], [65_536, 65_537]]),
     one(What::Mark, 2, "the mark's four bytes", 0..=0, &[[0, 1]]).members(4),
     one(What::Version, 3, "the version", 1..=1, &[[1, 0], [1, 2], [1, 257]]),
@@ -122,12 +127,9 @@ pub const ALL: [Limited; 34] = [
     one(What::Radius, 8, "a point's r", 1..=1024, &[[1, 0], [1024, 1025]]),
     one(What::Centre, 8, "its x, y and z", REACH, OF_REACH).members(3),
     one(What::Weight, 8, "its w", -4096..=4096, &[[4096, 4097], [-4096, -4097]]),
-    one(What::HeldByOperator, 9, "values held before an operator", 2..=MOST, &[[2, 1]])
-        .asked_by(|_| true),
-    one(What::HeldByPoint, 10, "values held with a point", 1..=64, &[[64, 65]])
-        .asked_by(|_| true),
-    one(What::HeldAtEnd, 11, "values held at the end", 1..=1, &[[1, 2]])
-        .asked_by(|_| true),
+    one(What::HeldByOperator, 9, "values held before an operator", 2..=MOST, &[[2, 1]]).of_nodes(),
+    one(What::HeldByPoint, 10, "values held with a point", 1..=64, &[[64, 65]]).of_nodes(),
+    one(What::HeldAtEnd, 11, "values held at the end", 1..=1, &[[1, 2]]).of_nodes(),
     one(What::RayCoordinate, 12, "the ray's six coordinates", REACH, OF_REACH).members(6)
         .asked_by(in_steps),
     one(What::PlaceCoordinate, 12, "the place's three", REACH, OF_REACH).members(3)
@@ -154,12 +156,14 @@ pub const ALL: [Limited; 34] = [
     one(What::End, 17, "the place after the trailer", 24..=65_536, &[[65_536, 65_537]]).in_a_write(),
     one(What::RoomLeft, 17, "the room less that place", 0..=MOST, &[[0, -1]]).in_a_write(),
     one(What::Sum, 17, "that place in 64 bits", 0..=0, &[[0, 1]]).in_a_write(),
+    one(What::SavedLength, 18, "the saved record's length", 12..=12, &[[12, 0], [12, 11], [12, 13], [12, 24]])
+        .asked_by(|call| call == RESTORE),
 ];
 
 impl What {
     /// Its row of `ALL`.
     pub fn limited(self) -> &'static Limited {
-        static ROWS: [Limited; 34] = ALL;
+        static ROWS: [Limited; 35] = ALL;
         let row = &ROWS[self as usize];
         assert_eq!(row.what, self);
         row

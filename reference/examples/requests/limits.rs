@@ -1,10 +1,11 @@
 //! Requests on both sides of each limit of the questions, all else accepted: of
 //! each pair the first is accepted, the second refused.
 
-use crate::request::{casting, is_counted, need, six};
-use crate::request::{Request, BOUNDS, CALLS, COLUMN, FULL_CAST, VIEW, WRITE};
+use crate::drawn::lent;
+use crate::request::{casting, need, six};
+use crate::request::{Request, BOUNDS, CALLS, COLUMN, FULL_CAST, RESTORE, VIEW, WRITE};
 use crate::write_limits::writes;
-use reference::generate::{totals, SplitMix64};
+use reference::generate::SplitMix64;
 use reference::part::{operator_record, point_record, FileBuilder};
 use reference::part::{FILE_MARK, OPERATORS, RECORD};
 
@@ -20,7 +21,7 @@ const REACH: i32 = 2047;
 pub fn at_limits(random: &mut SplitMix64) -> Vec<Request> {
     let requests: Vec<Request> = (0..CALLS as u8)
         .flat_map(of_call)
-        .map(|request| counted(random, request).answered())
+        .map(|request| lent(random, request.answered()))
         .collect();
     for pair in requests.chunks(2) {
         assert!(pair[0].is_accepted() && !pair[1].is_accepted());
@@ -28,19 +29,17 @@ pub fn at_limits(random: &mut SplitMix64) -> Vec<Request> {
     requests
 }
 
-/// The request, lent totals if it counts.
-fn counted(random: &mut SplitMix64, mut request: Request) -> Request {
-    if is_counted(request.call) {
-        request.totals = totals(random);
-    }
-    request
-}
-
 /// A call's requests at the limits that it asks about.
 fn of_call(call: u8) -> Vec<Request> {
-    if call == WRITE {
-        return writes();
+    match call {
+        WRITE => writes(),
+        RESTORE => restores(),
+        _ => of_file(call),
     }
+}
+
+/// Those of a call that is handed a file.
+fn of_file(call: u8) -> Vec<Request> {
     let whole = Request {
         call,
         file: whole().build(),
@@ -297,4 +296,17 @@ fn rooms(call: u8) -> Vec<[usize; 2]> {
         Some(FULL_CAST | COLUMN) => vec![[need(call), need(call) - 1]],
         _ => Vec::new(),
     }
+}
+
+/// Question 18: 12 bytes, and none, one less, one more and twice as many.
+fn restores() -> Vec<Request> {
+    let contents = [[0; 24], [255; 24], std::array::from_fn(|i| i as u8 + 1)];
+    let of_lengths = |bytes: [u8; 24]| {
+        [12, 0, 12, 11, 12, 13, 12, 24].map(|length| Request {
+            call: RESTORE,
+            saved: bytes[..length].to_vec(),
+            ..Request::default()
+        })
+    };
+    contents.into_iter().flat_map(of_lengths).collect()
 }

@@ -2,7 +2,7 @@
 //! and which are wrong.
 
 use crate::limited::What;
-use crate::request::{casting, Request, BOUNDS, COLUMN, FULL_CAST, VIEW, WRITE};
+use crate::request::{casting, Request, BOUNDS, COLUMN, FULL_CAST, RESTORE, VIEW, WRITE};
 use reference::part::{FILE_MARK, RECORD};
 use reference::write::NODE_NUMBERS;
 
@@ -18,28 +18,33 @@ pub struct Look {
 }
 
 impl Look {
-    /// Looks at what a write is given, or at the file, and at the ray and the
-    /// room as the call is asked.
+    /// Looks at what a write is given, at a saved record, or at the file and what
+    /// the call is asked of it.
     pub fn at(request: &Request) -> Look {
         let mut look = Look::default();
-        if request.call == WRITE {
-            look.write(request);
-            return look;
+        match request.call {
+            WRITE => look.write(request),
+            RESTORE => look.see(What::SavedLength, 0, request.saved.len() as i64),
+            _ => look.asked_of_file(request),
         }
-        look.file(&request.file);
+        look
+    }
+
+    /// The file, and the ray and the room as the call is asked.
+    fn asked_of_file(&mut self, request: &Request) {
+        self.file(&request.file);
         match (casting(request.call), request.call) {
-            (Some(VIEW), _) => look.floats(request.ray.map(f32::from_bits)),
-            (Some(_), _) => look.ray(request.ray.map(|bits| i64::from(bits as i32))),
-            (None, BOUNDS) => look.place(&request.ray[..3]),
+            (Some(VIEW), _) => self.floats(request.ray.map(f32::from_bits)),
+            (Some(_), _) => self.ray(request.ray.map(|bits| i64::from(bits as i32))),
+            (None, BOUNDS) => self.place(&request.ray[..3]),
             (None, _) => {}
         }
         let room = request.room as i64;
         match casting(request.call) {
-            Some(FULL_CAST) => look.see(What::MarksRoom, 0, room),
-            Some(COLUMN) => look.see(What::ColumnRoom, 0, room),
+            Some(FULL_CAST) => self.see(What::MarksRoom, 0, room),
+            Some(COLUMN) => self.see(What::ColumnRoom, 0, room),
             _ => {}
         }
-        look
     }
 
     fn see(&mut self, what: What, member: usize, value: i64) {

@@ -2,7 +2,7 @@
 
 use crate::drawings::Drawing;
 use crate::expected::{answered, bounds_number, check_number, viewed};
-use crate::expected::{read_number, write_number};
+use crate::expected::{read_number, restore_number, write_number};
 use reference::cast;
 use reference::field::Ray;
 use reference::totals::Totals;
@@ -21,8 +21,9 @@ pub const CHECK: u8 = 8;
 pub const BOUNDS: u8 = 9;
 pub const WRITE: u8 = 10;
 pub const READ: u8 = 11;
+pub const RESTORE: u8 = 12;
 /// How many calls there are.
-pub const CALLS: usize = 12;
+pub const CALLS: usize = 13;
 
 /// The least number that is no refusal's.
 const ACCEPTED: u64 = 65_536;
@@ -37,6 +38,8 @@ pub struct Request {
     pub file: Vec<u8>,
     /// What a write is given, in place of a file.
     pub drawing: Drawing,
+    /// The saved record that is read, in place of a file.
+    pub saved: Vec<u8>,
     /// The bits of A's coordinates and B's, or of a place's and three zeros.
     pub ray: [u32; 6],
     pub budget: u32,
@@ -45,7 +48,8 @@ pub struct Request {
     pub place: usize,
     pub totals: Totals,
     pub number: u64,
-    pub after: Totals,
+    /// The probes that the call makes; none if it is refused or is no cast.
+    pub made: Option<u32>,
     pub written: Vec<u8>,
 }
 
@@ -54,7 +58,7 @@ pub fn casting(call: u8) -> Option<u8> {
     (call < CHECK).then_some(call % COUNTED)
 }
 
-/// Whether the call is lent the totals.
+/// Whether the call adds to the totals.
 pub fn is_counted(call: u8) -> bool {
     (COUNTED..CHECK).contains(&call)
 }
@@ -119,13 +123,11 @@ impl Request {
             (None, CHECK) => (check_number(file), None),
             (None, BOUNDS) => (bounds_number(file, ray.a, &mut buffer), None),
             (None, WRITE) => (self.write_to(&mut buffer), None),
-            (None, _) => (read_to(file, &mut buffer), None),
+            (None, READ) => (read_to(file, &mut buffer), None),
+            (None, _) => (self.restore(&mut Totals::default()), None),
         };
         self.number = number;
-        self.after = match is_counted(self.call) {
-            true => self.totals.after(probes),
-            false => self.totals,
-        };
+        self.made = probes;
         if self.is_accepted() {
             self.written = buffer[self.changed()].to_vec();
         }
@@ -138,6 +140,31 @@ impl Request {
         write_number(numbers, *iso, buffer, self.place).into()
     }
 
+    /// The number of the saved record, read into the totals.
+    fn restore(&self, totals: &mut Totals) -> u64 {
+        restore_number(&self.saved, totals).into()
+    }
+
+    /// What the answered call adds to the totals.
+    pub fn added(&self) -> Totals {
+        match is_counted(self.call) {
+            true => Totals::default().after(self.made),
+            false => Totals::default(),
+        }
+    }
+
+    /// The totals after the answered call.
+    pub fn after(&self) -> Totals {
+        let mut after = self.totals;
+        if self.call == RESTORE {
+            self.restore(&mut after);
+        }
+        match is_counted(self.call) {
+            true => after.after(self.made),
+            false => after,
+        }
+    }
+
     /// Which bytes of the buffer an accepted call writes.
     fn changed(&self) -> Range<usize> {
         match self.call {
@@ -147,10 +174,12 @@ impl Request {
         }
     }
 
-    /// The bytes that the call is handed: the file, or a write's numbers.
+    /// The bytes that the call is handed: the file, a write's numbers, or the
+    /// saved record.
     fn handed(&self) -> Vec<u8> {
         match self.call {
             WRITE => bytes_of(&self.drawing.numbers),
+            RESTORE => self.saved.clone(),
             _ => self.file.clone(),
         }
     }
@@ -166,9 +195,9 @@ impl Request {
         write_numbers(to, &[handed.len() as u32])?;
         write_numbers(to, &self.ray)?;
         write_numbers(to, &[limit, self.room as u32])?;
-        write_numbers(to, &three(&self.totals))?;
+        write_totals(to, self.totals)?;
         to.write_all(&self.number.to_le_bytes())?;
-        write_numbers(to, &three(&self.after))?;
+        write_totals(to, self.after())?;
         write_numbers(to, &[self.written.len() as u32])?;
         to.write_all(&(self.place as u64).to_le_bytes())?;
         to.write_all(&handed)?;
@@ -199,6 +228,8 @@ fn write_numbers(to: &mut impl Write, numbers: &[u32]) -> io::Result<()> {
         .try_for_each(|number| to.write_all(&number.to_le_bytes()))
 }
 
-fn three(totals: &Totals) -> [u32; 3] {
-    [totals.casts, totals.probes, totals.refusals]
+fn write_totals(to: &mut impl Write, totals: Totals) -> io::Result<()> {
+    <[u64; 3]>::from(totals)
+        .iter()
+        .try_for_each(|total| to.write_all(&total.to_le_bytes()))
 }

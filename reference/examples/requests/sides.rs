@@ -36,19 +36,13 @@ impl Sides {
         self.0[side].get(&seen).copied().unwrap_or_default()
     }
 
-    /// The fewest requests of one call on one side of one limit. Fails, and says
-    /// which, if there is none.
-    pub fn least(&self) -> Result<i64, String> {
-        let counts = ALL.iter().flat_map(|limited| self.counts(limited));
-        let (least, name) = counts.min().unwrap_or_default();
-        match least {
-            0 => Err(format!("no request has {name}")),
-            _ => Ok(least),
-        }
+    /// The count of each side of each limit and call that asks, and their name.
+    pub fn counts(&self) -> Vec<(i64, String)> {
+        let all = ALL.iter().flat_map(|limited| self.counts_of(limited));
+        all.collect()
     }
 
-    /// The count of each side and call that asks, and their name.
-    fn counts(&self, limited: &'static Limited) -> Vec<(i64, String)> {
+    fn counts_of(&self, limited: &'static Limited) -> Vec<(i64, String)> {
         let counts = sides(limited).into_iter().flat_map(|(side, seen)| {
             let counts = self.by_call(side, seen);
             let asking = (0..CALLS).filter(|&call| (limited.asks)(call as u8));
@@ -82,6 +76,15 @@ impl Sides {
         }
         let shown = |(value, count)| format!("{}: {}", limited.what.shown(value), grouped(count));
         totals.into_iter().map(shown).collect::<Vec<_>>().join("; ")
+    }
+}
+
+/// The fewest requests of all that are counted. Fails, and says of what, if there
+/// is none.
+pub fn least(counts: impl Iterator<Item = (i64, String)>) -> Result<i64, String> {
+    match counts.min().unwrap_or_default() {
+        (0, name) => Err(format!("no request has {name}")),
+        (least, _) => Ok(least),
     }
 }
 

@@ -1,39 +1,20 @@
 //! Counted calls and the viewer's first hit, each compared with the reference:
-//! the number, every byte of the buffer and around it, the totals and the words
-//! around them, and the file, which stays as it was. Each counted call is also
-//! compared with the plain one.
+//! the number, every byte of the buffer and around it, the totals and the
+//! numbers around them, and the file, which stays as it was. Each counted call is
+//! also compared with the plain one.
 
 #[path = "entries.rs"]
 pub mod entries;
 #[path = "expected.rs"]
-mod expected;
+pub mod expected;
 #[path = "guards.rs"]
-mod guards;
+pub mod guards;
 
 use expected::{answered, number_and_place};
-use guards::in_guards;
+use guards::{in_guards, lent};
 use reference::field::Ray;
 use reference::totals::Totals;
 use reference::view::{viewer_first_hit, ViewRay, ViewerHit};
-
-/// The words around the totals.
-const GUARD: u32 = 0x5a5a_5a5a;
-
-/// What `call` answers, handed the totals, and the totals it leaves. It leaves
-/// the words around them as they were.
-fn lent<T>(totals: Totals, call: impl FnOnce(&mut [u32; 3]) -> T) -> (T, Totals) {
-    let three = [totals.casts, totals.probes, totals.refusals];
-    let mut words = [[GUARD; 3], three, [GUARD; 3]];
-    let answer = call(&mut words[1]);
-    assert_eq!([words[0], words[2]], [[GUARD; 3]; 2]);
-    let [casts, probes, refusals] = words[1];
-    let after = Totals {
-        casts,
-        probes,
-        refusals,
-    };
-    (answer, after)
-}
 
 /// The archive's number of a counted full cast if `which` is 0, of a first hit
 /// if it is 1, else of a column.
@@ -43,7 +24,7 @@ fn count(
     ray: &Ray,
     budget: u32,
     buffer: &mut [u8],
-    totals: &mut [u32; 3],
+    totals: &mut [u64; 3],
 ) -> u64 {
     match which {
         0 => entries::full_cast_counted(file, ray, budget, buffer, totals).into(),

@@ -88,7 +88,7 @@ extern "C" {
         budget: u32,
         marks: *mut u8,
         marks_len: usize,
-        totals: *mut u32,
+        totals: *mut u64,
     ) -> u32;
 
     fn fenalukki_first_hit_counted(
@@ -101,7 +101,7 @@ extern "C" {
         by: i32,
         bz: i32,
         budget: u32,
-        totals: *mut u32,
+        totals: *mut u64,
     ) -> u64;
 
     fn fenalukki_column_counted(
@@ -115,7 +115,7 @@ extern "C" {
         bz: i32,
         column: *mut u8,
         column_len: usize,
-        totals: *mut u32,
+        totals: *mut u64,
     ) -> u32;
 
     fn fenalukki_viewer_first_hit_counted(
@@ -128,7 +128,7 @@ extern "C" {
         by: f32,
         bz: f32,
         budget: u32,
-        totals: *mut u32,
+        totals: *mut u64,
     ) -> u64;
 
     fn fenalukki_write(
@@ -141,9 +141,12 @@ extern "C" {
     ) -> u32;
 
     fn fenalukki_read(file: *const u8, file_len: usize, numbers: *mut i32) -> u64;
+
+    fn fenalukki_restore_totals(saved: *const u8, saved_len: usize, totals: *mut u64) -> u32;
 }
 
-/// The pointer of a file or of numbers, null where there are none.
+/// The pointer of a file, of numbers or of a saved record, null where there are
+/// none.
 fn start<T>(items: &[T]) -> *const T {
     if items.is_empty() {
         null()
@@ -214,7 +217,7 @@ pub fn full_cast_counted(
     ray: &Ray,
     budget: u32,
     marks: &mut [u8],
-    totals: &mut [u32; 3],
+    totals: &mut [u64; 3],
 ) -> u32 {
     let ([ax, ay, az], [bx, by, bz]) = (ray.a, ray.b);
     let (at, len, sums) = (start(file), file.len(), totals.as_mut_ptr());
@@ -224,7 +227,7 @@ pub fn full_cast_counted(
 }
 
 /// The number of a first hit that counts.
-pub fn first_hit_counted(file: &[u8], ray: &Ray, budget: u32, totals: &mut [u32; 3]) -> u64 {
+pub fn first_hit_counted(file: &[u8], ray: &Ray, budget: u32, totals: &mut [u64; 3]) -> u64 {
     let ([ax, ay, az], [bx, by, bz]) = (ray.a, ray.b);
     let (at, len, sums) = (start(file), file.len(), totals.as_mut_ptr());
     // SAFETY: both pointers are valid for their lengths and do not overlap.
@@ -232,7 +235,7 @@ pub fn first_hit_counted(file: &[u8], ray: &Ray, budget: u32, totals: &mut [u32;
 }
 
 /// The number of a column that counts.
-pub fn column_counted(file: &[u8], ray: &Ray, column: &mut [u8], totals: &mut [u32; 3]) -> u32 {
+pub fn column_counted(file: &[u8], ray: &Ray, column: &mut [u8], totals: &mut [u64; 3]) -> u32 {
     let ([ax, ay, az], [bx, by, bz]) = (ray.a, ray.b);
     let (at, len, sums) = (start(file), file.len(), totals.as_mut_ptr());
     let (to, room) = (start_mut(column), column.len());
@@ -245,7 +248,7 @@ pub fn viewer_first_hit_counted(
     file: &[u8],
     ray: &ViewRay,
     budget: u32,
-    totals: &mut [u32; 3],
+    totals: &mut [u64; 3],
 ) -> u64 {
     let ([ax, ay, az], [bx, by, bz]) = (ray.a, ray.b);
     let (at, len, sums) = (start(file), file.len(), totals.as_mut_ptr());
@@ -266,4 +269,11 @@ pub fn read(file: &[u8], numbers: &mut [i32; MOST_NUMBERS]) -> u64 {
     let to = numbers.as_mut_ptr();
     // SAFETY: both pointers are valid for their lengths and do not overlap.
     unsafe { fenalukki_read(start(file), file.len(), to) }
+}
+
+/// The number of a saved record.
+pub fn restore_totals(saved: &[u8], totals: &mut [u64; 3]) -> u32 {
+    let sums = totals.as_mut_ptr();
+    // SAFETY: both pointers are valid for their lengths and do not overlap.
+    unsafe { fenalukki_restore_totals(start(saved), saved.len(), sums) }
 }

@@ -4,6 +4,7 @@
 use reference::cast;
 use reference::field::Ray;
 use reference::part;
+use reference::totals::Totals;
 use reference::view::{viewer_first_hit, ViewRay, ViewerHit};
 use reference::write;
 
@@ -104,4 +105,13 @@ pub fn read_number(file: &[u8], numbers: &mut [i32]) -> u64 {
         numbers[..right.len()].copy_from_slice(&right);
     }
     check_number(file)
+}
+
+/// The number of a saved record, read into the totals unless refused.
+#[allow(dead_code)]
+pub fn restore_number(saved: &[u8], totals: &mut Totals) -> u32 {
+    match totals.restore(saved) {
+        Ok(()) => 65_536,
+        Err(number) => number,
+    }
 }

@@ -19,7 +19,7 @@ const BEFORE: [i64; 2] = [-7, 7];
 #[derive(Default)]
 pub struct Host {
     /// As the archive leaves them.
-    lent: [u32; 3],
+    lent: [u64; 3],
     /// As the reference has them.
     totals: Totals,
 }
@@ -28,12 +28,7 @@ impl Host {
     /// The totals after a casting call with these probes, or refused.
     fn count(&mut self, probes: Option<u32>) {
         self.totals = self.totals.after(probes);
-        let Totals {
-            casts,
-            probes,
-            refusals,
-        } = self.totals;
-        assert_eq!(self.lent, [casts, probes, refusals]);
+        assert_eq!(self.lent, <[u64; 3]>::from(self.totals));
     }
 
     /// A full cast, and the marks it leaves; no byte is one beforehand.
