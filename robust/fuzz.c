@@ -1,8 +1,9 @@
 /*
- * The twelve C entries under libFuzzer, each compared with the reference: the
+ * The thirteen C entries under libFuzzer, each compared with the reference: the
  * number, every byte of the buffer, of the bounds, of the nodes' numbers and of
- * the totals and around them, and the file and the numbers handed over. What is
- * lent lies against inaccessible pages. robust/fuzz builds and runs it.
+ * the totals and around them, and the file, the numbers and the saved record
+ * handed over. What is lent lies against inaccessible pages. robust/fuzz builds
+ * and runs it.
  *
  * An input is the ray lister's: A and B as six signed 16-bit numbers, the
  * budget unsigned 16 bits, then the file, little-endian. With fewer than 14
@@ -15,7 +16,9 @@
  * trailer is written as a part, two bytes for each number and the trailer's
  * iso-value: at place 0 and at A's x, unsigned, with just enough room, and at
  * A's y, below 0 a place near 2^64, with B's x, unsigned, as the room. The
- * buffer is lent fifteen times, so that a call's changes sides from input to
+ * file's first bytes are read as a saved record: none, 11, 12, 13, and as many
+ * as the lower five bits of A's z say, or all where there are fewer. Each piece
+ * is lent an odd number of times, so that a call's changes sides from input to
  * input.
  */
 #include "fenalukki.h"
@@ -55,6 +58,7 @@ uint32_t reference_column(const uint8_t *file, size_t file_len,
 uint32_t reference_write(const int32_t *numbers, size_t numbers_len, uint32_t iso,
                          uint8_t *buffer, size_t buffer_len, size_t place);
 uint64_t reference_read(const uint8_t *file, size_t file_len, int32_t *numbers);
+uint32_t reference_restore_totals(const uint8_t *saved, size_t saved_len, uint64_t *totals);
 
 struct input {
     const uint8_t *original; /* the file's bytes, for the reference */
@@ -71,10 +75,10 @@ struct drawing {
     uint32_t iso;
 };
 
-/* The totals before a call: the ceiling is near, and reached. */
-static const uint32_t before[3] = {5, UINT32_MAX - 20, UINT32_MAX};
+/* The totals before a call: 32 bits are full, the ceiling is near, and reached. */
+static const uint64_t before[3] = {UINT32_MAX, UINT64_MAX - 20, UINT64_MAX};
 
-static struct lent file, buffer, totals, given;
+static struct lent file, buffer, totals, given, saved;
 
 static uint32_t unsigned_at(const uint8_t *at)
 {
@@ -105,20 +109,19 @@ static void expect(const char *call, uint64_t found, uint64_t right, const void 
     expect_same(call, take_back(&buffer, bytes, written));
 }
 
-static uint32_t *lend_totals(void)
+static uint64_t *lend_totals(void)
 {
-    return (uint32_t *)(void *)lend(&totals, before, sizeof before);
+    return (uint64_t *)(void *)lend(&totals, before, sizeof before);
 }
 
 /* Compares the totals after a call of the number. */
 static void expect_counted(const char *call, uint64_t number)
 {
-    uint32_t after[3] = {before[0], before[1], before[2]};
-    uint32_t probes = (uint32_t)(number & 0xffff);
+    uint64_t after[3] = {before[0], before[1], before[2]}, probes = number & 0xffff;
 
     if (number >= 65536) {
         after[0]++;
-        after[1] = probes > 20 ? UINT32_MAX : after[1] + probes;
+        after[1] = probes > 20 ? UINT64_MAX : after[1] + probes;
     }
     expect_same(call, take_back(&totals, after, sizeof after));
 }
@@ -261,6 +264,30 @@ static void compare_writes(const struct input *in)
     compare_write(&drawing, (size_t)(int64_t)in->ray[1], in->ray[3] & 0xffff);
 }
 
+/* Reads so many of the file's first bytes, or all, as a saved record. */
+static void compare_restore(const struct input *in, size_t count)
+{
+    uint64_t after[3] = {before[0], before[1], before[2]};
+    size_t length = count < in->length ? count : in->length;
+    uint32_t found, right = reference_restore_totals(in->original, length, after);
+    const uint8_t *bytes = lend(&saved, in->original, length);
+
+    lent_protect(&saved);
+    found = fenalukki_restore_totals(bytes, length, lend_totals());
+    expect_same("saved record", found == right ? NULL : "the number");
+    expect_same("the totals", take_back(&totals, after, sizeof after));
+    expect_same("the saved record", take_back(&saved, in->original, length));
+}
+
+static void compare_restores(const struct input *in)
+{
+    const size_t counts[] = {0, 11, 12, 13, in->ray[2] & 31};
+    size_t i;
+
+    for (i = 0; i < sizeof counts / sizeof *counts; i++)
+        compare_restore(in, counts[i]);
+}
+
 static void read_input(struct input *in, const uint8_t *data, size_t size)
 {
     static const uint8_t zeros[HEAD];
@@ -284,6 +311,7 @@ int LLVMFuzzerTestOneInput(const uint8_t *data, size_t size)
         lent_open(&buffer, 1);
         lent_open(&totals, 1);
         lent_open(&given, 1);
+        lent_open(&saved, 1);
         opened = 1;
     }
     read_input(&in, data, size);
@@ -301,6 +329,7 @@ int LLVMFuzzerTestOneInput(const uint8_t *data, size_t size)
     compare_file(&in);
     compare_read(&in);
     compare_writes(&in);
+    compare_restores(&in);
     expect_same("the file", take_back(&file, in.original, in.length));
     return 0;
 }

@@ -2,7 +2,7 @@
  * A host that makes the requests of a stream and compares each answer with the
  * reference's: the number, every byte of the buffer, of the two bounds or of the
  * nodes' numbers and around it, the totals and what lies around them, and the
- * file or the numbers that the call is handed.
+ * file, the numbers or the saved record that the call is handed.
  * reference/examples/requests makes the stream and describes it.
  *
  *     replay pages|heap < STREAM
@@ -23,9 +23,9 @@
 #include <string.h>
 #include <unistd.h>
 
-#define HEAD 84
+#define HEAD 108
 #define KINDS 5
-#define QUESTIONS 18
+#define QUESTIONS 19
 /* A kind of answer is rare below one in so many requests. */
 #define RARE 1000
 
@@ -42,16 +42,17 @@ enum call {
     BOUNDS,
     WRITE,
     READ,
+    RESTORE,
     CALLS
 };
 
 struct request {
     unsigned call;
     int damaged;
-    uint32_t ray[6], limit, before[3], after[3]; /* limit: the budget, or a write's iso */
+    uint32_t ray[6], limit; /* limit: the budget, or a write's iso */
     size_t handed_len, room, written, place;
-    uint64_t number;
-    uint8_t handed[LENT_MOST]; /* the file, or the numbers that a write is given */
+    uint64_t before[3], number, after[3];
+    uint8_t handed[LENT_MOST]; /* the file, a write's numbers, or a saved record */
     uint8_t expected[4 * 3066];
 };
 
@@ -68,23 +69,26 @@ static const struct kinds check_kinds = {32, {"refused", "accepted", NULL, NULL,
 static const struct kinds bounds_kinds = {16, {"refused", "answered", NULL, NULL, NULL}};
 static const struct kinds write_kinds = {
     16, {"refused", "written", "written to byte 65,536", NULL, NULL}};
+static const struct kinds restore_kinds = {16, {"refused", "read", NULL, NULL, NULL}};
 
 static const struct {
     const char *name;
     const struct kinds *kinds;
+    const char *handed;
 } calls[CALLS] = {
-    {"full cast", &cast_kinds},
-    {"first hit", &hit_kinds},
-    {"column", &column_kinds},
-    {"viewer's first hit", &hit_kinds},
-    {"full cast counted", &cast_kinds},
-    {"first hit counted", &hit_kinds},
-    {"column counted", &column_kinds},
-    {"viewer's first hit counted", &hit_kinds},
-    {"check of a file", &check_kinds},
-    {"bounds at a place", &bounds_kinds},
-    {"write", &write_kinds},
-    {"read", &check_kinds},
+    {"full cast", &cast_kinds, "the file"},
+    {"first hit", &hit_kinds, "the file"},
+    {"column", &column_kinds, "the file"},
+    {"viewer's first hit", &hit_kinds, "the file"},
+    {"full cast counted", &cast_kinds, "the file"},
+    {"first hit counted", &hit_kinds, "the file"},
+    {"column counted", &column_kinds, "the file"},
+    {"viewer's first hit counted", &hit_kinds, "the file"},
+    {"check of a file", &check_kinds, "the file"},
+    {"bounds at a place", &bounds_kinds, "the file"},
+    {"write", &write_kinds, "the numbers"},
+    {"read", &check_kinds, "the file"},
+    {"saved record", &restore_kinds, "the saved record"},
 };
 
 static unsigned long requests, damaged, damaged_accepted;
@@ -107,6 +111,14 @@ static void numbers_at(const uint8_t *at, uint32_t *to, size_t count)
 
     for (i = 0; i < count; i++)
         to[i] = number_at(at + 4 * i);
+}
+
+static void wides_at(const uint8_t *at, uint64_t *to, size_t count)
+{
+    size_t i;
+
+    for (i = 0; i < count; i++)
+        to[i] = wide_at(at + 8 * i);
 }
 
 static void end_broken(void)
@@ -147,11 +159,11 @@ static int read_request(struct request *r)
     numbers_at(head + 8, r->ray, 6);
     r->limit = number_at(head + 32);
     r->room = number_at(head + 36);
-    numbers_at(head + 40, r->before, 3);
-    r->number = wide_at(head + 52);
-    numbers_at(head + 60, r->after, 3);
-    r->written = number_at(head + 72);
-    r->place = (size_t)wide_at(head + 76);
+    wides_at(head + 40, r->before, 3);
+    r->number = wide_at(head + 64);
+    wides_at(head + 72, r->after, 3);
+    r->written = number_at(head + 96);
+    r->place = (size_t)wide_at(head + 100);
     end_if_broken(r);
     read_bytes(r->handed, r->handed_len);
     read_bytes(r->expected, r->written);
@@ -159,7 +171,7 @@ static int read_request(struct request *r)
 }
 
 /* Makes a viewer's call. */
-static uint64_t viewer_answer(const struct request *r, const uint8_t *file, uint32_t *totals)
+static uint64_t viewer_answer(const struct request *r, const uint8_t *file, uint64_t *totals)
 {
     float c[6];
 
@@ -173,7 +185,7 @@ static uint64_t viewer_answer(const struct request *r, const uint8_t *file, uint
 
 /* Makes another casting call. */
 static uint64_t cast_answer(const struct request *r, const uint8_t *file, uint8_t *buffer,
-                            uint32_t *totals)
+                            uint64_t *totals)
 {
     int32_t c[6];
 
@@ -204,7 +216,7 @@ static uint64_t cast_answer(const struct request *r, const uint8_t *file, uint8_
 
 /* Makes a call. */
 static uint64_t answer(const struct request *r, const uint8_t *handed, uint8_t *buffer,
-                       uint32_t *totals)
+                       uint64_t *totals)
 {
     int32_t c[3];
 
@@ -220,6 +232,8 @@ static uint64_t answer(const struct request *r, const uint8_t *handed, uint8_t *
                                buffer, r->room, r->place);
     case READ:
         return fenalukki_read(handed, r->handed_len, (int32_t *)(void *)buffer);
+    case RESTORE:
+        return fenalukki_restore_totals(handed, r->handed_len, totals);
     default:
         return cast_answer(r, handed, buffer, totals);
     }
@@ -238,17 +252,16 @@ static int replay(const struct request *r, struct lent *handed, struct lent *buf
                   struct lent *totals)
 {
     uint64_t number;
-    const char *name = r->call == WRITE ? "the numbers" : "the file";
     const uint8_t *handed_bytes = lend(handed, r->handed, r->handed_len);
     uint8_t *buffer_bytes = lend(buffer, NULL, r->room);
-    uint32_t *three = (uint32_t *)(void *)lend(totals, r->before, sizeof r->before);
+    uint64_t *three = (uint64_t *)(void *)lend(totals, r->before, sizeof r->before);
     int found;
 
     lent_protect(handed);
     snprintf(during_call, sizeof during_call, "request %lu, %s: ", requests, calls[r->call].name);
     number = answer(r, handed_bytes, buffer_bytes, three);
     during_call[0] = 0;
-    found = differs(r, name, take_back(handed, r->handed, r->handed_len));
+    found = differs(r, calls[r->call].handed, take_back(handed, r->handed, r->handed_len));
     found |= differs(r, "the buffer", take_back_from(buffer, r->place, r->expected, r->written));
     found |= differs(r, "the totals", take_back(totals, r->after, sizeof r->after));
     if (number == r->number)
@@ -316,7 +329,7 @@ static int print_counts(void)
     for (call = 0; call < CALLS; call++)
         rare |= print_call(call);
     rare |= print_refusals();
-    printf("on damaged files and drawings:");
+    printf("on damaged files, drawings and saved records:");
     rare |= print_count("all", damaged);
     rare |= print_count("accepted", damaged_accepted);
     printf("\n");

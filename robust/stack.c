@@ -12,16 +12,16 @@
 #include <string.h>
 #include <ucontext.h>
 
-enum { STACK = 1 << 20, MOST = 32768, PATTERN = 0xa5, ENTRIES = 12 };
+enum { STACK = 1 << 20, MOST = 32768, PATTERN = 0xa5, ENTRIES = 13 };
 
 #define RAY -2047, -2047, -300, 2047, 2047, 300
 #define FLOATS -2047.0f / 64, -2047.0f / 64, -300.0f / 64, 2047.0f / 64, 2047.0f / 64, 300.0f / 64
 
-static uint8_t part[65537], buffer[1024], written[65536], stack[STACK];
+static uint8_t part[65537], buffer[1024], written[65536], saved[12], stack[STACK];
 static size_t length;
 static int32_t numbers[3066]; /* of the part's nodes, once they are read */
 static size_t numbers_len;
-static uint32_t totals[3];
+static uint64_t totals[3];
 static int64_t bounds[2];
 static uint64_t number; /* the last call's */
 
@@ -85,6 +85,11 @@ static void write_part(void)
     number = fenalukki_write(numbers, numbers_len, 1, written, sizeof written, 12);
 }
 
+static void restore_totals(void)
+{
+    number = fenalukki_restore_totals(saved, sizeof saved, totals);
+}
+
 static struct {
     const char *name;
     void (*run)(void);
@@ -102,6 +107,7 @@ static struct {
     {"bounds at a place", place_bounds, 0},
     {"write", write_part, 0},
     {"read", read_nodes, 0},
+    {"saved record", restore_totals, 0},
 };
 
 static size_t used_by(void (*entry)(void))

@@ -15,6 +15,7 @@
 #define FLOATS float ax, float ay, float az, float bx, float by, float bz
 #define RAY ax, ay, az, bx, by, bz
 #define NUMBERS const int32_t *numbers, size_t numbers_len
+#define SAVED const uint8_t *saved, size_t saved_len
 /* The numbers of an accepted call: of one probe, complete or clear. */
 #define COMPLETE 65537u
 #define CLEAR (UINT64_C(3) << 32 | 1)
@@ -25,19 +26,20 @@ uint64_t __real_fenalukki_first_hit(FILE_BYTES, ENDS, uint32_t budget);
 uint32_t __real_fenalukki_column(FILE_BYTES, ENDS, uint8_t *column, size_t column_len);
 uint64_t __real_fenalukki_viewer_first_hit(FILE_BYTES, FLOATS, uint32_t budget);
 uint32_t __real_fenalukki_full_cast_counted(FILE_BYTES, ENDS, uint32_t budget, uint8_t *marks,
-                                            size_t marks_len, uint32_t *totals);
+                                            size_t marks_len, uint64_t *totals);
 uint64_t __real_fenalukki_first_hit_counted(FILE_BYTES, ENDS, uint32_t budget,
-                                            uint32_t *totals);
+                                            uint64_t *totals);
 uint32_t __real_fenalukki_column_counted(FILE_BYTES, ENDS, uint8_t *column, size_t column_len,
-                                         uint32_t *totals);
+                                         uint64_t *totals);
 uint64_t __real_fenalukki_viewer_first_hit_counted(FILE_BYTES, FLOATS, uint32_t budget,
-                                                   uint32_t *totals);
+                                                   uint64_t *totals);
 uint64_t __real_fenalukki_check(FILE_BYTES);
 uint32_t __real_fenalukki_place_bounds(FILE_BYTES, int32_t x, int32_t y, int32_t z,
                                        int64_t *bounds);
 uint32_t __real_fenalukki_write(NUMBERS, uint32_t iso, uint8_t *buffer, size_t buffer_len,
                                 size_t place);
 uint64_t __real_fenalukki_read(FILE_BYTES, int32_t *numbers);
+uint32_t __real_fenalukki_restore_totals(SAVED, uint64_t *totals);
 
 static volatile uint8_t seen;
 
@@ -67,6 +69,15 @@ static size_t told_numbers(size_t count)
 static size_t told_part_room(size_t length)
 {
     return wrong("tells-more-room-for-part") ? length + 1 : length;
+}
+
+/* 12 bytes for one less, or for one more. */
+static size_t told_saved(size_t length)
+{
+    int as_12 = (wrong("tells-longer-saved") && length == 11) ||
+                (wrong("passes-13-saved") && length == 13);
+
+    return as_12 ? 12 : length;
 }
 
 /* Reads what it should not read of a file, or writes to it. */
@@ -101,10 +112,12 @@ static void touch_buffer(uint32_t number, uint8_t *buffer, size_t length, size_t
         buffer[need - 1] = 0x80;
 }
 
-/* Writes beside the totals, or counts otherwise than the call did. */
-static void touch_totals(uint64_t number, uint32_t *totals)
+/* Writes beside the totals, or counts otherwise than the call did; the casts
+ * are those before it. */
+static void touch_totals(uint64_t number, uint64_t casts, uint64_t *totals)
 {
     int refused = number < 16;
+    uint64_t probes = number & 0xffff;
 
     if (wrong("writes-past-totals"))
         totals[3] = 0;
@@ -118,8 +131,13 @@ static void touch_totals(uint64_t number, uint32_t *totals)
         totals[0]--;
     if (wrong("probe-not-counted") && !refused)
         totals[1]--;
-    if (wrong("total-wraps") && !refused && totals[0] == UINT32_MAX)
-        totals[0] = 0;
+    if (wrong("total-wraps") && !refused)
+        totals[0] = casts + 1;
+    if (wrong("total-stays-at-32-bits") && !refused && totals[1] > UINT32_MAX &&
+        totals[1] - probes <= UINT32_MAX)
+        totals[1] = UINT32_MAX;
+    if (wrong("ceiling-less-one") && refused && totals[2] == UINT64_MAX)
+        totals[2]--;
 }
 
 static uint32_t bytes_at(const uint8_t *at)
@@ -333,54 +351,58 @@ uint64_t __wrap_fenalukki_viewer_first_hit(FILE_BYTES, FLOATS, uint32_t budget)
 }
 
 uint32_t __wrap_fenalukki_full_cast_counted(FILE_BYTES, ENDS, uint32_t budget, uint8_t *marks,
-                                            size_t marks_len, uint32_t *totals)
+                                            size_t marks_len, uint64_t *totals)
 {
+    uint64_t casts = totals[0];
     uint32_t number = __real_fenalukki_full_cast_counted(
         file, told_file(file_len), RAY, budget, marks, told_room(marks_len), totals);
 
     touch_file(file, file_len);
     touch_buffer(number, marks, marks_len, 1024);
-    touch_totals(number, totals);
+    touch_totals(number, casts, totals);
     if (wrong("counted-mark") && number >= 65536)
         marks[1023] ^= 1;
     return number;
 }
 
 uint64_t __wrap_fenalukki_first_hit_counted(FILE_BYTES, ENDS, uint32_t budget,
-                                            uint32_t *totals)
+                                            uint64_t *totals)
 {
+    uint64_t casts = totals[0];
     uint64_t number = __real_fenalukki_first_hit_counted(file, told_file(file_len), RAY, budget,
                                                          totals);
 
     touch_file(file, file_len);
-    touch_totals(number, totals);
+    touch_totals(number, casts, totals);
     if (wrong("counted-next-tick") && number >> 32 == 1)
         number += 65536;
     return number;
 }
 
 uint32_t __wrap_fenalukki_column_counted(FILE_BYTES, ENDS, uint8_t *column, size_t column_len,
-                                         uint32_t *totals)
+                                         uint64_t *totals)
 {
+    uint64_t casts = totals[0];
     uint32_t number = __real_fenalukki_column_counted(file, told_file(file_len), RAY, column,
                                                       told_room(column_len), totals);
 
     touch_file(file, file_len);
     touch_buffer(number, column, column_len, 128);
-    touch_totals(number, totals);
+    touch_totals(number, casts, totals);
     if (wrong("counted-bit") && number >= 65536)
         column[0] ^= 1;
     return number;
 }
 
 uint64_t __wrap_fenalukki_viewer_first_hit_counted(FILE_BYTES, FLOATS, uint32_t budget,
-                                                   uint32_t *totals)
+                                                   uint64_t *totals)
 {
+    uint64_t casts = totals[0];
     uint64_t number = __real_fenalukki_viewer_first_hit_counted(file, told_file(file_len), RAY,
                                                                 budget, totals);
 
     touch_file(file, file_len);
-    touch_totals(number, totals);
+    touch_totals(number, casts, totals);
     if (wrong("counted-clear-as-spent") && number >> 32 == 3)
         number += UINT64_C(1) << 32;
     return number;
@@ -586,5 +608,61 @@ uint64_t __wrap_fenalukki_read(FILE_BYTES, int32_t *numbers)
         numbers[2] = -numbers[2];
     if (wrong("read-node-too-few") && !refused)
         number -= 65536;
+    return number;
+}
+
+/* Reads what it should not read of a saved record, or changes it. */
+static void touch_saved(SAVED)
+{
+    if (wrong("reads-past-saved") && saved_len > 0)
+        seen = saved[saved_len];
+    if (wrong("reads-before-saved") && saved_len > 0)
+        seen = saved[-1];
+    if (wrong("reads-no-saved") && saved_len == 0)
+        seen = *(const volatile uint8_t *)saved;
+    if (wrong("changes-saved") && saved_len > 0)
+        ((uint8_t *)saved)[saved_len / 2] ^= 1;
+}
+
+/* A number of 32 bits with its bytes in the other order. */
+static uint64_t big_endian(uint64_t number)
+{
+    return number >> 24 | (number >> 8 & 0xff00) | (number & 0xff00) << 8 | (number & 0xff) << 24;
+}
+
+/* Leaves other totals than those read; the casts are those before. */
+static void misrestore(uint64_t casts, uint64_t *totals)
+{
+    uint64_t read = totals[0];
+
+    if (wrong("saved-exchanged")) {
+        totals[0] = totals[1];
+        totals[1] = read;
+    }
+    if (wrong("saved-added"))
+        totals[0] += casts;
+    if (wrong("saved-ceiling-raised") && totals[1] == UINT32_MAX)
+        totals[1] = UINT64_MAX;
+    if (wrong("saved-big-endian"))
+        totals[2] = big_endian(totals[2]);
+}
+
+uint32_t __wrap_fenalukki_restore_totals(SAVED, uint64_t *totals)
+{
+    uint64_t casts = totals[0];
+    uint32_t number = __real_fenalukki_restore_totals(saved, told_saved(saved_len), totals);
+    int refused = number < 65536;
+
+    touch_saved(saved, saved_len);
+    if (!refused)
+        misrestore(casts, totals);
+    if (wrong("refused-saved-clears") && refused)
+        memset(totals, 0, 3 * sizeof *totals);
+    if (wrong("refused-saved-counted") && refused)
+        totals[2]++;
+    if (wrong("restores-past-totals"))
+        totals[3] = 0;
+    if (wrong("restores-before-totals"))
+        totals[-1] = 0;
     return number;
 }
