@@ -2,12 +2,12 @@
 -- and that a saved record gives back any three numbers that were saved, each unchanged (`saved-back`).
 use mathlib.Core.Path.{_≡_, refl}
 use mathlib.Core.List.{List, [], _∷_, _++_, map}
-use Prim.Native.Nat.{ℕ, _+_, _*_, _/_, _%_, _^_, _<_}
-use native.Mathlib.Omega.{arith}
+use Prim.Native.Nat.{ℕ, _^_, _<_}
 use lib.ListN.{replicate}
 use Rattle.record.specs.Bytes.{u16, u32}
 use Rattle.record.specs.Questions.{firstNo}
 use Rattle.writer.specs.Bytes.{u16Bytes, u32Bytes}
+use Rattle.writer.proofs.Numbers.{u32-back}
 use Rattle.tally.specs.declared.Totals.{Totals}
 use Rattle.tally.specs.declared.Tally.{Tally}
 use Rattle.tally.specs.declared.Tally.the-variants.{Cast, Refused}
@@ -43,11 +43,7 @@ savedForm t = u32Bytes (t .casts) ++ u32Bytes (t .probes) ++ u32Bytes (t .refusa
 
 pub saved-back : (t : Totals) → t .casts < 2 ^ 32 → t .probes < 2 ^ 32 → t .refusals < 2 ^ 32 → readSaved (savedForm t) ≡ saved.Read t
 unfolding u16 u32 firstNo savedQuestions savedTotals savedBy readSaved u16Bytes u32Bytes
-saved-back t c p r = λ i. saved.Read (of (back (t .casts) c i) (back (t .probes) p i) (back (t .refusals) r i))
-  where
-    back : (n : ℕ) → n < 2 ^ 32
-        → n % 65536 % 256 + 256 * (n % 65536 / 256 % 256) + 65536 * (n / 65536 % 256 + 256 * (n / 65536 / 256 % 256)) ≡ n
-    back n h = omega arith
+saved-back t c p r = λ i. saved.Read (of (u32-back (t .casts) c i) (u32-back (t .probes) p i) (u32-back (t .refusals) r i))
 
 -- ---- what calls add
 

@@ -28,7 +28,7 @@ pub enum Tally {
     Refused,
 }
 
-// A saved record, read: the refusal number, or its totals.
+// What a saved record is answered: the refusal number, or its totals.
 pub enum Saved {
     Refused(u32),
     Read(Totals),
@@ -138,7 +138,7 @@ pub fn read_saved(saved: &[u8]) -> Saved
     Saved::Read(saved_totals(saved))
 }
 
-// The record in use after a saved one is read.
+// The record in use after a saved one: the saved totals, or, where it is refused, what it was.
 pub fn restored(totals: Totals, saved: Saved) -> Totals
     ensures { λ r. ⌜ r ≡ afterSaved totals saved ⌝ }
 {

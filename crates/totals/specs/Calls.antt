@@ -1,5 +1,5 @@
 -- Full cast, first hit and column as one call, and the viewer's first hit beside it; each with the running totals afterwards (document 01, "Calls").
--- And the totals after a saved record is read (document 02, P4).
+-- And the totals after a saved record (document 02, P4).
 use mathlib.Core.Path.{_≡_}
 use mathlib.Core.List.{List}
 use Prim.Native.Nat.{ℕ}
@@ -80,6 +80,6 @@ pub record Answered (saved : List ℕ) (r : Saved) : Type 0 where
   pub answer : r ≡ readSaved saved
   pub says : SavedSays saved r
 
--- the totals after it is read
+-- the totals after it: its own, or, where it is refused, those that there were
 unfoldable pub totalsRestored : List ℕ → Totals → Totals
 totalsRestored saved totals = afterSaved totals (readSaved saved)

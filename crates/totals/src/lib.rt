@@ -57,7 +57,7 @@ pub struct CountedViewAnswer {
     pub totals: Totals,
 }
 
-// A saved record, read, and the totals after it.
+// What a saved record is answered, and the totals after it.
 pub struct Restored {
     pub answer: Saved,
     pub totals: Totals,
