@@ -1,5 +1,5 @@
--- What a host in C gets from each call (document 01, "Calls"; document 02, P2, P4 and P5): its number, what was lent afterwards, and all that the call
--- promises of the answer that the number stands for, demands 2 and 3 included.
+-- What a host in C gets from each call (document 01, "Calls"; document 02, P2, P4 and P5): its number, what was lent afterwards, and all that the
+-- call promises of the answer that the number stands for, demands 2 and 3 included.
 use mathlib.Core.Path.{_≡_}
 use mathlib.Core.List.{List}
 use Prim.Native.Nat.{ℕ}

@@ -1,5 +1,5 @@
--- What a history makes of running totals: each total is what there was and what was added, up to the ceiling (`history-adds`). The probes added are at
--- most 2,047 times the casts added if no marching cast has changed the totals (`figure`), and at most 2,052 times in every history
+-- What a history makes of running totals: each total is what there was and what was added, up to the ceiling (`history-adds`). The probes added are
+-- at most 2,047 times the casts added if no marching cast has changed the totals (`figure`), and at most 2,052 times in every history
 -- (`marching-figure`). So it is with a record that was zeroed (`probes-few`, `marching-probes-few`), and with three numbers that a host in C set to 0
 -- (`host-probes-few`, `host-marching-probes-few`).
 use mathlib.Core.Path.{_≡_, refl, ap, _∙_}

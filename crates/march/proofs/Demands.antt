@@ -1,5 +1,5 @@
--- Demands 2 and 3 on the marching cast's definitions (`march-demands`): by the laws of the search, and by what `cast` shows of every cast that hands over
--- marks (`marks-by`). And that an unspent march and an unspent full cast leave the same bytes (`same-bytes`).
+-- Demands 2 and 3 on the marching cast's definitions (`march-demands`): by the laws of the search, and by what `cast` shows of every cast that hands
+-- over marks (`marks-by`). And that an unspent march and an unspent full cast leave the same bytes (`same-bytes`).
 use mathlib.Core.Path.{_≡_, refl, sym, ap, _∙_}
 use mathlib.Core.List.{List, _++_, append-nil}
 use Prim.Native.Nat.{ℕ, _-_, _^_, _≤_}

@@ -1,9 +1,10 @@
--- Laws of the marching search, over any state and any T. It makes at most 2 T + 4 probes, whatever the fuel (`count-most`): a candidate that is
--- finished moves on by at least a tick and doubles its length, and one that is halved halves it, so there are hardly more halvings than ticks. So
--- 2 T + 4 steps of fuel are enough (`fuel-enough`), and the count is the rule's (`count-takes`, `takes-once`). A march is spent exactly where the count
--- is more than the budget, with the smaller of the two as its probes (`counted`), and has then written the marks of the unspent march (`written-are`).
--- Where a decided span decides each of its ticks alike (`Nested`), every mark is its tick's own state (`march-at`), and so the halving search's
--- (`marks-equal`). Laws take fuel f with `Enough f i c`, which a probe hands on to f − 1 (`enough-next`).
+-- Laws of the marching search, over any state and any T. It makes at most 2 T + 4 probes (`count-most`): a candidate that is finished moves on by at
+-- least a tick and doubles its length, and one that is halved halves it, so there are hardly more halvings than ticks. So that many candidates reach
+-- the ray's end, more change nothing (`more-alike`), and the count is the rule's (`count-takes`, `takes-once`). A march is spent exactly where the
+-- count is more than the budget, with the smaller of the two as its probes (`counted`), and its marks are then the first ones of the unspent march
+-- (`first-marks`). Where a decided span decides each of its ticks alike (`Nested`), every mark is its tick's own state (`march-at`), and so the
+-- halving search's (`marks-equal`). Laws take a number f of candidates that reach the end, `Enough f i c`, which a probe hands on to f − 1
+-- (`enough-next`).
 use Prim.Native.Nat.{ℕ, zero, suc, _+_, _-_, _*_, _/_, _^_, _≤_, _<_, min}
 use mathlib.Core.Path.{_≡_, refl, sym, ap, _∙_}
 use mathlib.Core.Logic.{_⊎_, inl, inr}
@@ -20,7 +21,7 @@ use Rattle.halving.specs.Halving.{Nested, spanMarks, castLookedAt}
 use Rattle.halving.proofs.Halving as halving
 use Rattle.cast.specs.Demands.{Counted}
 use Rattle.march.specs.Marching.{firstLength, marchEnough, cut, nextTick, nextLength, marked, tickAfter, lengthAfter, marksOf, Takes}
-use Rattle.march.specs.Marching.{countFrom, marksFrom, walkFrom, writtenFrom, marchCount, marchMarks, march}
+use Rattle.march.specs.Marching.{countFrom, marksFrom, walkFrom, marchCount, marchMarks, march}
 
 -- ---- one candidate of n ticks from tick i on, in state s
 
@@ -95,6 +96,10 @@ module _ (state : ℕ → ℕ → ℕ) (T : ℕ) where
   marks-end zero i c h = refl
   marks-end (suc f) i c h = rw (le-ltb _ _ h)
 
+  pub marks-out : (i c : ℕ) → marksFrom state T 0 i c ≡ []
+  unfolding marksFrom
+  marks-out i c = refl
+
   pub marks-probe : (f i c : ℕ) → i < T
       → marksFrom state T (suc f) i c ≡ marksOf state T i c ++ marksFrom state T f (tickAfter state T i c) (lengthAfter state T i c)
   unfolding marksFrom
@@ -113,20 +118,6 @@ module _ (state : ℕ → ℕ → ℕ) (T : ℕ) where
       → walkFrom state T (suc b) i c m ≡ walkFrom state T b (tickAfter state T i c) (lengthAfter state T i c) (m + 1)
   unfolding walkFrom
   walk-probe b i c m h = rw (lt-ltb _ _ h)
-
-  pub written-end : (b i c : ℕ) → T ≤ i → writtenFrom state T b i c ≡ []
-  unfolding writtenFrom
-  written-end zero i c h = refl
-  written-end (suc b) i c h = rw (le-ltb _ _ h)
-
-  pub written-out : (i c : ℕ) → writtenFrom state T 0 i c ≡ []
-  unfolding writtenFrom
-  written-out i c = refl
-
-  pub written-probe : (b i c : ℕ) → i < T
-      → writtenFrom state T (suc b) i c ≡ marksOf state T i c ++ writtenFrom state T b (tickAfter state T i c) (lengthAfter state T i c)
-  unfolding writtenFrom
-  written-probe b i c h = rw (lt-ltb _ _ h)
 
   -- ---- a candidate that is cut
 
@@ -209,7 +200,7 @@ module _ (state : ℕ → ℕ → ℕ) (T : ℕ) where
         ]
       ]
 
-  -- whatever the fuel
+  -- however many candidates are allowed
   pub count-most : (f : ℕ) → countFrom state T f 0 firstLength ≤ marchEnough T
   count-most f = elim (decLe 2 T) [
     | yes h ↦ omega (arith, few f 0 firstLength 6 (omega arith) (omega arith) (omega arith))
@@ -219,9 +210,9 @@ module _ (state : ℕ → ℕ → ℕ) (T : ℕ) where
     ]
   ]
 
-  -- ---- more fuel changes nothing
+  -- ---- more candidates change nothing
 
-  -- with f steps of fuel the end is reached: one more step makes no more than f probes
+  -- f candidates reach the end: with one more allowed there are no more than f
   abbrev pub Enough : ℕ → ℕ → ℕ → Type 0
   Enough f i c = countFrom state T (suc f) i c ≤ f
 
@@ -231,7 +222,7 @@ module _ (state : ℕ → ℕ → ℕ) (T : ℕ) where
   pub enough-next : (f i c : ℕ) → i < T → Enough (suc f) i c → Enough f (tickAfter state T i c) (lengthAfter state T i c)
   enough-next f i c lt h = omega (arith, count-probe (suc f) i c lt)
 
-  -- any fuel that 2T + 4 does not exceed
+  -- 2 T + 4 do, and any more
   pub march-enough : (f : ℕ) → marchEnough T ≤ f → Enough f 0 firstLength
   march-enough f h = omega (arith, count-most (suc f))
 
@@ -258,10 +249,10 @@ module _ (state : ℕ → ℕ → ℕ) (T : ℕ) where
         ∙ sym (marks-probe f i c lt)
   ]
 
-  -- the whole ray's count and marks with any fuel of at least 2 T + 4
-  pub fuel-enough : (f : ℕ) → marchEnough T ≤ f
+  -- the whole ray's count and marks with any number of at least 2 T + 4
+  pub more-alike : (f : ℕ) → marchEnough T ≤ f
       → (countFrom state T f 0 firstLength ≡ marchCount state T) × (marksFrom state T f 0 firstLength ≡ marchMarks state T)
-  fuel-enough f h =
+  more-alike f h =
       let e = march-enough (marchEnough T) (omega arith) in
       (same-count (marchEnough T) f 0 firstLength h e, same-marks (marchEnough T) f 0 firstLength h e)
 
@@ -289,7 +280,7 @@ module _ (state : ℕ → ℕ → ℕ) (T : ℕ) where
 
   -- ---- the walk
 
-  -- what the walk answers with b probes left of the budget, m made before, and fuel f that is enough
+  -- what the walk answers with b probes left of the budget and m made before, where f candidates reach the end
   abbrev pub Walked : ℕ → ℕ → ℕ → ℕ → ℕ → CastAnswer → Type 0
   Walked f b i c m (Refused n) = ⊥
   Walked f b i c m (Complete p) = (p ≡ m + countFrom state T f i c) × (countFrom state T f i c ≤ b)
@@ -365,19 +356,19 @@ module _ (state : ℕ → ℕ → ℕ) (T : ℕ) where
   looked-within f b i c m (Complete p) h w = (h, omega arith)
   looked-within f b i c m (Spent t p) h (is, more, from, before) = (from, omega arith)
 
-  -- the marks that a march with b probes left writes are those of the unspent march, as far as it looks
-  pub written-are : (f b i c m : ℕ) → 1 ≤ c → i ≤ T → Enough f i c
-      → writtenFrom state T b i c ≡ take (castLookedAt T (walkFrom state T b i c m) - i) (marksFrom state T f i c)
+  -- the marks of a march with b probes left are those of the unspent march, as far as it looks
+  pub first-marks : (f b i c m : ℕ) → 1 ≤ c → i ≤ T → Enough f i c
+      → marksFrom state T b i c ≡ take (castLookedAt T (walkFrom state T b i c m) - i) (marksFrom state T f i c)
   unfolding castLookedAt
-  written-are f zero i c m h at e = elim (decLt i T) [
-    | no n ↦ let end : T ≤ i = omega arith in rw (written-end 0 i c end, marks-end f i c end, take-nil)
+  first-marks f zero i c m h at e = elim (decLt i T) [
+    | no n ↦ let end : T ≤ i = omega arith in rw (marks-end 0 i c end, marks-end f i c end, take-nil)
     | yes lt ↦
         let z : i - i ≡ 0 = omega arith in
-        rw (walk-out i c m lt, z) (written-out i c)
+        rw (walk-out i c m lt, z) (marks-out i c)
   ]
-  written-are zero (suc b) i c m h at e = let end = enough-none i c e in rw (written-end (suc b) i c end, marks-end 0 i c end, take-nil)
-  written-are (suc f) (suc b) i c m h at e = elim (decLt i T) [
-    | no n ↦ let end : T ≤ i = omega arith in rw (written-end (suc b) i c end, marks-end (suc f) i c end, take-nil)
+  first-marks zero (suc b) i c m h at e = let end = enough-none i c e in rw (marks-end (suc b) i c end, marks-end 0 i c end, take-nil)
+  first-marks (suc f) (suc b) i c m h at e = elim (decLt i T) [
+    | no n ↦ let end : T ≤ i = omega arith in rw (marks-end (suc b) i c end, marks-end (suc f) i c end, take-nil)
     | yes lt ↦
         let i′ = tickAfter state T i c in
         let c′ = lengthAfter state T i c in
@@ -388,8 +379,8 @@ module _ (state : ℕ → ℕ → ℕ) (T : ℕ) where
         let e′ = enough-next f i c lt e in
         let from = looked-within f b i′ c′ (m + 1) w (x .within) (walked f b i′ c′ (m + 1) (x .some) e′) .0 in
         let far : length own + (castLookedAt T w - i′) ≡ castLookedAt T w - i = omega (arith, from, x .long) in
-        rw (written-probe b i c lt, walk-probe b i c m lt, marks-probe f i c lt)
-        (ap (λ (ms : List ℕ). own ++ ms) (written-are f b i′ c′ (m + 1) (x .some) (x .within) e′)
+        rw (marks-probe b i c lt, walk-probe b i c m lt, marks-probe f i c lt)
+        (ap (λ (ms : List ℕ). own ++ ms) (first-marks f b i′ c′ (m + 1) (x .some) (x .within) e′)
         ∙ sym (take-append-add own rest (castLookedAt T w - i′))
         ∙ ap (λ (n : ℕ). take n (own ++ rest)) far)
   ]

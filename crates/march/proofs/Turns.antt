@@ -12,11 +12,11 @@ use Rattle.halving.specs.declared.CastAnswer.{CastAnswer}
 use Rattle.halving.specs.declared.CastAnswer.the-variants.{Complete, Spent}
 use Rattle.halving.specs.Halving.{castLookedAt, handed}
 use Rattle.halving.proofs.Handed.{handed-over}
-use Rattle.march.specs.Marching.{firstLength, marchEnough, cut, tickAfter, lengthAfter, marksOf, walkFrom, writtenFrom, marchMarks, march}
+use Rattle.march.specs.Marching.{firstLength, marchEnough, cut, tickAfter, lengthAfter, marksOf, walkFrom, marksFrom, marchMarks, march}
 use Rattle.march.specs.declared.Candidate.{Candidate}
 use Rattle.march.specs.Candidates.{Followed}
-use Rattle.march.proofs.Marching.{halved, finished, next, march-enough, whole, looked-within, length-march, written-are}
-use Rattle.march.proofs.Marching.{walk-end, walk-out, walk-probe, written-end, written-out, written-probe}
+use Rattle.march.proofs.Marching.{halved, finished, next, march-enough, whole, looked-within, length-march, first-marks}
+use Rattle.march.proofs.Marching.{walk-end, walk-out, walk-probe, marks-end, marks-out, marks-probe}
 
 -- ---- the ways out of `advance`: a candidate cut to n ticks, in state s, and the buffer before and after
 
@@ -51,12 +51,12 @@ module _ (state : ℕ → ℕ → ℕ) (T b : ℕ) where
       pub few : m ≤ b
       pub some : 1 ≤ at .length
       pub walk : walkFrom state T (b - m) (at .first) (at .length) m ≡ march state T b
-      pub bytes : sets l (at .first) (writtenFrom state T (b - m) (at .first) (at .length)) ≡ sets out 0 (writtenFrom state T b 0 firstLength)
+      pub bytes : sets l (at .first) (marksFrom state T (b - m) (at .first) (at .length)) ≡ sets out 0 (marksFrom state T b 0 firstLength)
       pub size : length l ≡ length out
 
     -- what `march_on` promises of its answer and of the buffer
     abbrev pub Marched : CastAnswer → List ℕ → Type 0
-    Marched w l = (w ≡ march state T b) × (l ≡ sets out 0 (writtenFrom state T b 0 firstLength))
+    Marched w l = (w ≡ march state T b) × (l ≡ sets out 0 (marksFrom state T b 0 firstLength))
 
     pub started : Left out (record { first = 0; length = firstLength }) 0
     started = record { few = omega arith; some = omega arith; walk = rw (sub-zero b); bytes = rw (sub-zero b); size = refl }
@@ -68,11 +68,11 @@ module _ (state : ℕ → ℕ → ℕ) (T b : ℕ) where
           let i = at .first in
           let c = at .length in
           let own = marksOf state T i c in
-          let rest = writtenFrom state T (b - (m + 1)) (tickAfter state T i c) (lengthAfter state T i c) in
+          let rest = marksFrom state T (b - (m + 1)) (tickAfter state T i c) (lengthAfter state T i c) in
           let x = next state T i c (left .some) lt in
           let e : b - m ≡ suc (b - (m + 1)) = omega arith in
           let w = ap (λ (n : ℕ). walkFrom state T n i c m) e ∙ walk-probe state T (b - (m + 1)) i c m lt in
-          let u = ap (λ (n : ℕ). writtenFrom state T n i c) e ∙ written-probe state T (b - (m + 1)) i c lt in
+          let u = ap (λ (n : ℕ). marksFrom state T n i c) e ∙ marks-probe state T (b - (m + 1)) i c lt in
           record {
             few = omega arith;
             some = omega (arith, f .length, x .some);
@@ -92,14 +92,14 @@ module _ (state : ℕ → ℕ → ℕ) (T b : ℕ) where
                 ∙ ap (λ (n : ℕ). walkFrom state T n (at .first) (at .length) m) (sym e)
                 ∙ left .walk,
             ap (λ (v : List ℕ). sets l (at .first) v)
-                (sym (ap (λ (n : ℕ). writtenFrom state T n (at .first) (at .length)) e ∙ written-out state T (at .first) (at .length)))
+                (sym (ap (λ (n : ℕ). marksFrom state T n (at .first) (at .length)) e ∙ marks-out state T (at .first) (at .length)))
                 ∙ left .bytes,
           )
 
       pub is-complete : T ≤ at .first → Marched (Complete m) l
       is-complete h = (
         sym (walk-end state T (b - m) (at .first) (at .length) m h) ∙ left .walk,
-        ap (λ (v : List ℕ). sets l (at .first) v) (sym (written-end state T (b - m) (at .first) (at .length) h)) ∙ left .bytes,
+        ap (λ (v : List ℕ). sets l (at .first) v) (sym (marks-end state T (b - m) (at .first) (at .length) h)) ∙ left .bytes,
       )
 
   -- ---- the whole ray
@@ -108,11 +108,11 @@ module _ (state : ℕ → ℕ → ℕ) (T b : ℕ) where
     pub reached-within : castLookedAt T w ≤ T
     reached-within = rw is (looked-within state T (marchEnough T) b 0 firstLength 0 (march state T b) (omega arith) (whole state T b) .1)
 
-    pub march-handed : (out l l′ : List ℕ) → T ≤ length out → l ≡ sets out 0 (writtenFrom state T b 0 firstLength)
+    pub march-handed : (out l l′ : List ℕ) → T ≤ length out → l ≡ sets out 0 (marksFrom state T b 0 firstLength)
         → l′ ≡ sets l (castLookedAt T w) (replicate (T - castLookedAt T w) notLookedAt) → l′ ≡ handed T w (marchMarks state T) ++ drop T out
     march-handed out l l′ room wrote rest =
-        let written : writtenFrom state T b 0 firstLength ≡ take (castLookedAt T w) (marchMarks state T) =
-        written-are state T (marchEnough T) b 0 firstLength 0 (omega arith) (omega arith) (march-enough state T (marchEnough T) (omega arith))
+        let written : marksFrom state T b 0 firstLength ≡ take (castLookedAt T w) (marchMarks state T) =
+        first-marks state T (marchEnough T) b 0 firstLength 0 (omega arith) (omega arith) (march-enough state T (marchEnough T) (omega arith))
         ∙ ap (λ (n : ℕ). take n (marchMarks state T)) (sub-zero (castLookedAt T (march state T b)) ∙ ap (castLookedAt T) (sym is)) in
         handed-over T w (marchMarks state T) (length-march state T) reached-within out l l′ room
         (wrote ∙ ap (λ (u : List ℕ). sets out 0 u) written) rest

@@ -4,11 +4,13 @@ use mathlib.Core.Path.{_≡_, refl, sym, ap, ap₂, _∙_}
 use native.Mathlib.Omega.{arith}
 use native.Mathlib.Decide.{decLe}
 use native.Mathlib.Nat.{min-eq-left}
-use Rattle.march.specs.Marching.{cut, tickAfter, lengthAfter, countFrom, marchCount}
+use Rattle.field.specs.Bounds.{crossingMark}
+use Rattle.march.specs.Marching.{firstLength, marchEnough, cut, countFrom, marchCount}
 use Rattle.march.proofs.Marching.{Halved, Finished, halved, finished, count-end, count-probe}
 
-abbrev undecided : ℕ → ℕ → ℕ
-undecided i n = 1
+-- the state of a ray of which every span is undecided
+abbrev pub undecided : ℕ → ℕ → ℕ
+undecided i n = crossingMark
 
 module _ (T : ℕ) where
   abbrev count : ℕ → ℕ → ℕ → ℕ
@@ -25,13 +27,14 @@ module _ (T : ℕ) where
   once-passed : (f i c : ℕ) → i < T → cut T i c ≡ 1 → count (suc f) i c ≡ suc (count f (i + 1) 2)
   once-passed f i c lt e =
       let p : Finished 1 i (cut T i c) = rw e (finished 1 i 1 (omega arith) (λ _. omega arith)) in
-      count-probe undecided T f i c lt ∙ ap suc (ap₂ (λ (i c : ℕ). count f i c) (p .tick ∙ ap (λ (n : ℕ). i + n) e) (p .size ∙ ap (λ (n : ℕ). 2 * n) e))
+      count-probe undecided T f i c lt
+      ∙ ap suc (ap₂ (λ (i c : ℕ). count f i c) (p .tick ∙ ap (λ (n : ℕ). i + n) e) (p .size ∙ ap (λ (n : ℕ). 2 * n) e))
 
   -- tick by tick: two probes for each but the last
   by-ticks : (f i : ℕ) → i + 2 ≤ T → 2 * (T - i) ≤ f + 2 → count f i 1 ≡ 2 * (T - i) - 2
-  by-ticks zero i h fuel = absurd (omega arith)
-  by-ticks (suc zero) i h fuel = absurd (omega arith)
-  by-ticks (suc (suc f)) i h fuel =
+  by-ticks zero i h most = absurd (omega arith)
+  by-ticks (suc zero) i h most = absurd (omega arith)
+  by-ticks (suc (suc f)) i h most =
       let first : count (suc (suc f)) i 1 ≡ suc (count (suc f) (i + 1) 2) = once-passed (suc f) i 1 (omega arith) (min-eq-left (omega arith)) in
       elim (decLe (i + 1 + 2) T) [
         | yes more ↦ omega (arith, first, once-halved f (i + 1) 2 1 more (omega arith) refl, by-ticks f (i + 1) more (omega arith))
@@ -41,7 +44,7 @@ module _ (T : ℕ) where
             omega (arith, first, once-passed f (i + 1) 2 (omega arith) e, count-end undecided T f (i + 1 + 1) 2 (omega arith))
       ]
 
-  pub worst : 64 ≤ T → marchCount undecided T ≡ 2 * T + 4
+  pub worst : firstLength ≤ T → marchCount undecided T ≡ marchEnough T
   worst h =
       let e : 2 * T + 4 ≡ suc (suc (suc (suc (suc (suc (2 * T - 2)))))) = omega arith in
       let f = 2 * T - 2 in

@@ -57,42 +57,38 @@ module _ (state : ℕ → ℕ → ℕ) (T : ℕ) where
   Takes zero i c = T ≤ i
   Takes (suc probes) i c = (i < T) × Takes probes (tickAfter i c) (lengthAfter i c)
 
-  -- ---- the ray from there on, with fuel for so many candidates
+  -- ---- the ray from there on, as far as so many candidates go
 
+  -- how many of them there are
   unfoldable pub countFrom : ℕ → ℕ → ℕ → ℕ
   countFrom zero i c = 0
-  countFrom (suc fuel) i c =
-      let more = suc (countFrom fuel (tickAfter i c) (lengthAfter i c)) in
-      cond (ltb i T) more 0
+  countFrom (suc more) i c =
+      let later = suc (countFrom more (tickAfter i c) (lengthAfter i c)) in
+      cond (ltb i T) later 0
 
-  -- the marks of its ticks, each looked at
+  -- the marks of the ticks that they look at
   unfoldable pub marksFrom : ℕ → ℕ → ℕ → List ℕ
   marksFrom zero i c = []
-  marksFrom (suc fuel) i c =
-      let more = marksOf i c ++ marksFrom fuel (tickAfter i c) (lengthAfter i c) in
-      cond (ltb i T) more []
+  marksFrom (suc more) i c =
+      let later = marksOf i c ++ marksFrom more (tickAfter i c) (lengthAfter i c) in
+      cond (ltb i T) later []
 
-  -- the cast of it with `left` probes left of the budget and `made` probes made before: spent "at the first tick of the stretch waiting to be probed"
+  -- the cast of it with so many probes left of the budget and `made` probes made before: spent "at the first tick of the stretch waiting to be
+  -- probed"
   unfoldable pub walkFrom : ℕ → ℕ → ℕ → ℕ → CastAnswer
   walkFrom zero i c made = cond (ltb i T) (Spent i made) (Complete made)
-  walkFrom (suc left) i c made =
-      let more = walkFrom left (tickAfter i c) (lengthAfter i c) (made + 1) in
-      cond (ltb i T) more (Complete made)
+  walkFrom (suc more) i c made =
+      let later = walkFrom more (tickAfter i c) (lengthAfter i c) (made + 1) in
+      cond (ltb i T) later (Complete made)
 
-  -- the marks that this cast writes
-  unfoldable pub writtenFrom : ℕ → ℕ → ℕ → List ℕ
-  writtenFrom zero i c = []
-  writtenFrom (suc left) i c =
-      let more = marksOf i c ++ writtenFrom left (tickAfter i c) (lengthAfter i c) in
-      cond (ltb i T) more []
-
-  -- ---- the whole ray. Fuel for 2 T + 4 candidates is always enough, so that the count and the marks are the rule's (`count-takes` and `fuel-enough`,
+  -- ---- the whole ray. There are never more than 2 T + 4 candidates, so that the count and the marks are the rule's (`count-takes` and `more-alike`,
   -- proofs/Marching).
 
   -- "the whole ray's probe count goes by this rule"
   abbrev pub marchCount : ℕ
   marchCount = countFrom (marchEnough T) 0 firstLength
 
+  -- the marks of its ticks, each looked at
   abbrev pub marchMarks : List ℕ
   marchMarks = marksFrom (marchEnough T) 0 firstLength
 

@@ -20,7 +20,7 @@ ghost use Rattle.field.specs.Solid.{solidOf};
 ghost use Rattle.halving.specs.Halving.{handed};
 ghost use Rattle.halving.specs.Search.{Searchable, stateIn};
 ghost use Rattle.cast.specs.Ticks.{exponent};
-ghost use Rattle.march.specs.Marching.{firstLength, cut, marksOf, writtenFrom, marchMarks, march};
+ghost use Rattle.march.specs.Marching.{firstLength, cut, marksOf, marksFrom, marchMarks, march};
 ghost use Rattle.march.specs.Candidates.{Waiting, Followed};
 ghost use Rattle.march.specs.Calls.{marchingCast, marchedLeft};
 ghost use Rattle.march.specs.Demands.{MarchDemands};
@@ -77,7 +77,7 @@ fn march_on(out: &mut [u8], prepared: &[i64], s: Search) -> CastAnswer
     requires { ⌜ s .ticks ≤ length (now out) ⌝ }
     ensures answer { λ r. ⌜ r ≡ march (stateIn (now (prepared .entry)) s) (s .ticks) (s .budget) ⌝ }
     ensures bytes { λ _. ⌜ now (out .exit)
-        ≡ sets (now (out .entry)) 0 (writtenFrom (stateIn (now (prepared .entry)) s) (s .ticks) (s .budget) 0 firstLength) ⌝ }
+        ≡ sets (now (out .entry)) 0 (marksFrom (stateIn (now (prepared .entry)) s) (s .ticks) (s .budget) 0 firstLength) ⌝ }
 {
     let mut at = Candidate {
         first: 0,

@@ -19,8 +19,8 @@ advance-spec =
     let p = c .before .before in
     let k = p .before in
     let a = k .before .before .args in
-    is-halved (stateIn (a .prepared .now) (a .s)) (a .s .ticks) (a .at) (k .cut-to .result) (p .probe .result) (k .cut-to .ensures) (p .probe .ensures) (a .out .now)
-    (c .before .if1 .taken) (omega (arith, ltb-true)))
+    is-halved (stateIn (a .prepared .now) (a .s)) (a .s .ticks) (a .at) (k .cut-to .result) (p .probe .result)
+    (k .cut-to .ensures) (p .probe .ensures) (a .out .now) (c .before .if1 .taken) (omega (arith, ltb-true)))
     (λ c κs. search needs)
     (λ c. search needs)
     (λ c. search needs)
@@ -34,7 +34,8 @@ advance-spec =
     let s = k .before .before in
     let a = s .args in
     let w = s .pre .1 .0 in
-    is-finished (stateIn (a .prepared .now) (a .s)) (a .s .ticks) (a .at) (k .cut-to .result) (p .probe .result) (k .cut-to .ensures) (p .probe .ensures) (a .out .now)
+    is-finished (stateIn (a .prepared .now) (a .s)) (a .s .ticks) (a .at) (k .cut-to .result) (p .probe .result)
+    (k .cut-to .ensures) (p .probe .ensures) (a .out .now)
     (rw (k .cut-to .ensures) (cut-is (stateIn (a .prepared .now) (a .s)) (a .s .ticks) (a .at .first) (a .at .length) (w .some) (w .within) .some))
     (λ e. elim (j .if1 .came) [ inl n ↦ omega (arith, ltb-false) | inr n ↦ absurd (n .left e) ])
     (f .fill .last .0) (f .fill .ensures)))

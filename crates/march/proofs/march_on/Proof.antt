@@ -1,4 +1,5 @@
--- `march_on`: what is left of the march, with the probes left, gives the answer and the bytes of the whole. The measure is what is left of the budget.
+-- `march_on`: what is left of the march, with the probes left, gives the answer and the bytes of the whole. The measure is what is left of the
+-- budget.
 use Prim.Native.Nat.{_-_}
 use native.Mathlib.Omega.{arith}
 use Rattle.halving.specs.Search.{stateIn}
@@ -24,7 +25,8 @@ march-on-spec =
     let t = c .before .before in
     let l = t .before .before .before .loop in
     let a = t .before .before .before .before .before .args in
-    is-spent (stateIn (a .prepared .now) (a .s)) (a .s .ticks) (a .s .budget) (a .out .now) (l .out) (l .at) (l .made) (l .inv) (omega arith) (omega arith))
+    is-spent (stateIn (a .prepared .now) (a .s)) (a .s .ticks) (a .s .budget) (a .out .now) (l .out) (l .at) (l .made) (l .inv)
+    (omega arith) (omega arith))
     (λ c κs.
     let t = c .before .before .before in
     let l = t .before .before .before .loop in
