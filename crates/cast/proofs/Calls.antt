@@ -11,6 +11,7 @@ use lib.Dec.{leb}
 use Rattle.part.specs.declared.Summary.{Summary}
 use Rattle.part.specs.declared.Checked.the-variants.{Accepted, Refused}
 use Rattle.record.specs.Questions.{firstNo}
+use Rattle.record.specs.declared.Verdict.{Verdict}
 use Rattle.record.proofs.Questions.{yes-append, all-yes}
 use Rattle.part.proofs.File.{answer-accepted, answer-refused}
 use Rattle.field.specs.declared.Ray.{Ray}
@@ -32,7 +33,7 @@ use Rattle.cast.specs.declared.ColumnAnswer.the-variants as column
 use Rattle.cast.specs.Ticks.{exponent, rayState}
 use Rattle.cast.specs.Questions.{endsDiffer, hitQuestions, bufferQuestions, checkHit, checkBuffer}
 use Rattle.cast.specs.Column.{columnBytes, markBit, packed}
-use Rattle.cast.specs.Calls.{rayMarks, rayWalk, castAfter, fullCast, marksAfter, marksLeft}
+use Rattle.cast.specs.Calls.{castAfter, fullCast, marksAfter, marksLeft}
 use Rattle.cast.specs.Calls.{hitAfter, firstHit, columnAfter, columnAnswer, bitsAfter, bitsLeft}
 use Rattle.cast.specs.Demands.{CastDemands, HitDemands, ColumnDemands}
 use Rattle.cast.proofs.Questions.{asked-before}
@@ -76,6 +77,35 @@ module _ (file : List ℕ) (ray : Ray) where
     unfolding stateIn rayState
     states-are T budget = fun-ext (λ t. fun-ext (λ len. served .states (ticks t len T)))
 
+-- ---- a cast that hands over T ticks' marks: in the states it finds an answer, and marks of every tick
+
+module _ (file : List ℕ) (ray : Ray) (T : ℕ) (lent : List ℕ) (answer-in : (ℕ → ℕ → ℕ) → CastAnswer) (marks-in : (ℕ → ℕ → ℕ) → List ℕ) where
+  abbrev states : ℕ → ℕ → ℕ
+  states = rayState (solidOf file) ray T
+
+  abbrev verdict : Verdict
+  verdict = firstNo (bufferQuestions file ray T (length lent))
+
+  -- its answer and the buffer afterwards
+  abbrev pub Made : CastAnswer → List ℕ → Type 0
+  Made w l = (w ≡ castAfter verdict (answer-in states)) × (l ≡ marksAfter verdict T (answer-in states) (marks-in states) lent)
+
+  pub marks-refused : {n : ℕ} → checkBuffer file ray T (length lent) ≡ Refused n → Made (cast.Refused n) lent
+  unfolding checkBuffer castAfter marksAfter
+  marks-refused e = let v = answer-refused verdict file e in (rw v, rw v)
+
+  pub marks-made : {st : ℕ → ℕ → ℕ} (w : CastAnswer) (l : List ℕ) {part : Summary} → st ≡ states
+      → checkBuffer file ray T (length lent) ≡ Accepted part → w ≡ answer-in st → l ≡ handed T w (marks-in st) ++ drop T lent → Made w l
+  unfolding checkBuffer castAfter marksAfter
+  marks-made w l is e answer bytes =
+      let v = answer-accepted verdict file e in
+      let a = answer ∙ ap answer-in is in (
+        rw v a,
+        rw v (bytes
+            ∙ ap (λ (st : ℕ → ℕ → ℕ). handed T w (marks-in st) ++ drop T lent) is
+            ∙ ap (λ (w : CastAnswer). handed T w (marks-in states) ++ drop T lent) a),
+      )
+
 -- ---- full cast
 
 module _ (file : List ℕ) (ray : Ray) (budget : ℕ) (lent : List ℕ) where
@@ -85,25 +115,24 @@ module _ (file : List ℕ) (ray : Ray) (budget : ℕ) (lent : List ℕ) where
       (w ≡ fullCast file ray budget (length lent))
       × ((l ≡ marksLeft file ray budget lent) × CastDemands (solidOf file) ray exponent budget w l)
 
-  cast-promised : (w : CastAnswer) (l : List ℕ) → w ≡ fullCast file ray budget (length lent) → l ≡ marksLeft file ray budget lent → CastPromised w l
-  cast-promised w l e f = (e, (f, rw (e, f) (cast-demands file ray budget lent)))
+  -- the halving search of states
+  abbrev walk-in : (ℕ → ℕ → ℕ) → CastAnswer
+  walk-in st = walk st budget exponent 0 0
+
+  abbrev marks-of : (ℕ → ℕ → ℕ) → List ℕ
+  marks-of st = spanMarks st exponent 0
+
+  cast-promised : (w : CastAnswer) (l : List ℕ) → Made file ray (2 ^ exponent) lent walk-in marks-of w l → CastPromised w l
+  unfolding fullCast marksLeft
+  cast-promised w l (e, f) = (e, (f, rw (e, f) (cast-demands file ray budget lent)))
 
   pub cast-refused : {n : ℕ} → checkBuffer file ray (2 ^ exponent) (length lent) ≡ Refused n → CastPromised (cast.Refused n) lent
-  unfolding checkBuffer fullCast castAfter marksLeft marksAfter
-  cast-refused e =
-      let v = answer-refused (firstNo (bufferQuestions file ray (2 ^ exponent) (length lent))) file e in
-      cast-promised _ lent (rw v) (rw v)
+  cast-refused e = cast-promised _ lent (marks-refused file ray (2 ^ exponent) lent walk-in marks-of e)
 
   pub cast-made : {st : ℕ → ℕ → ℕ} (w : CastAnswer) (l : List ℕ) {part : Summary} → st ≡ rayState (solidOf file) ray (2 ^ exponent)
       → checkBuffer file ray (2 ^ exponent) (length lent) ≡ Accepted part → w ≡ walk st budget exponent 0 0
       → l ≡ handed (2 ^ exponent) w (spanMarks st exponent 0) ++ drop (2 ^ exponent) lent → CastPromised w l
-  unfolding checkBuffer fullCast castAfter marksLeft marksAfter
-  cast-made w l is e answer bytes =
-      let v = answer-accepted (firstNo (bufferQuestions file ray (2 ^ exponent) (length lent))) file e in
-      let a : w ≡ rayWalk (solidOf file) ray exponent budget = answer ∙ ap (λ (st : ℕ → ℕ → ℕ). walk st budget exponent 0 0) is in
-      cast-promised w l (rw v a) (rw v (bytes
-      ∙ ap (λ (st : ℕ → ℕ → ℕ). handed (2 ^ exponent) w (spanMarks st exponent 0) ++ drop (2 ^ exponent) lent) is
-      ∙ ap (λ (w : CastAnswer). handed (2 ^ exponent) w (rayMarks (solidOf file) ray exponent) ++ drop (2 ^ exponent) lent) a))
+  cast-made w l is e answer bytes = cast-promised w l (marks-made file ray (2 ^ exponent) lent walk-in marks-of w l is e answer bytes)
 
 -- ---- first hit
 

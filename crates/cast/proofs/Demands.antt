@@ -4,10 +4,10 @@
 -- a tick judged alone apply.
 use mathlib.Core.Path.{_≡_, refl, sym, ap, _∙_}
 use mathlib.Core.List.{List, [], _∷_, _++_, map}
-use Prim.Native.Nat.{ℕ, _-_, _/_, _%_, _^_, _≤_}
+use Prim.Native.Nat.{ℕ, _-_, _/_, _%_, _^_, _≤_, _<_}
 use native.Mathlib.Omega.{arith, pow-step}
 use native.Mathlib.Nat.{zero-add}
-use lib.ListN.{length, take, drop, replicate, length-append, List·getD-append}
+use lib.ListN.{length, take, drop, getD, replicate, length-append, List·getD-append}
 use lib.Seq.{getD-take, length-take-le}
 use lib.Dec.{leb}
 use lib.Pow.{pow-pos}
@@ -21,6 +21,7 @@ use Rattle.part.proofs.File.{file-numbered}
 use Rattle.field.specs.declared.Ray.{Ray}
 use Rattle.field.specs.Solid.{Solid, Valid, solidOf}
 use Rattle.field.specs.Bounds.{notLookedAt}
+use Rattle.field.specs.Marks.{markOf}
 use Rattle.field.proofs.Marks.{marks}
 use Rattle.loading.specs.Loading.{rayInRange, rayQuestions, checkRay}
 use Rattle.loading.proofs.Loading.{accepted-ray}
@@ -30,7 +31,7 @@ use Rattle.halving.specs.declared.HitAnswer.{HitAnswer}
 use Rattle.halving.specs.declared.HitAnswer.the-variants as found
 use Rattle.halving.specs.Halving.{castLookedAt, handed}
 use Rattle.halving.specs.FirstHit.{hitLookedAt}
-use Rattle.halving.proofs.Halving.{Walked, walked, looked-within, count-below, length-marks}
+use Rattle.halving.proofs.Halving.{Walked, walked, count-below, length-marks}
 use Rattle.halving.proofs.FirstHit.{Found, hits}
 use Rattle.halving.proofs.SameOrder.{spent-alike, clear-alike, hit-known}
 use Rattle.cast.specs.Column.{columnBytes, markBit, packed, columnLookedAt}
@@ -39,7 +40,7 @@ use Rattle.cast.specs.Questions.{endsDiffer, hitQuestions, bufferQuestio
 use Rattle.cast.specs.Calls.{rayProbes, rayMarks, rayWalk, rayHit, castAfter, fullCast, marksAfter, marksLeft}
 use Rattle.cast.specs.Calls.{hitAfter, firstHit, columnAfter, columnAnswer, bitsAfter, bitsLeft}
 use Rattle.cast.specs.Demands.{Sound, Alone, AloneBits, Empty, AloneHit, Counted, CountedHit, SameOrder, CountedColumn}
-use Rattle.cast.specs.Demands.{CastDemands, HitDemands, ColumnDemands}
+use Rattle.cast.specs.Demands.{MarkDemands, CastDemands, HitDemands, ColumnDemands}
 use Rattle.cast.proofs.Bits.{length-packed, column-bit}
 use Rattle.cast.proofs.Ticks.{ray-nested, tick-mark, ray-marks-at}
 
@@ -52,7 +53,7 @@ hit-valid file ray v =
     let e : checkRay file ray ≡ Accepted (summary file) = ap (λ (v : Verdict). answerOf v file) w in
     accepted-ray file ray e .valid
 
-buffer-valid : (file : List ℕ) (ray : Ray) (need room : ℕ) → firstNo (bufferQuestions file ray need room) ≡ Yes → Valid (solidOf file)
+pub buffer-valid : (file : List ℕ) (ray : Ray) (need room : ℕ) → firstNo (bufferQuestions file ray need room) ≡ Yes → Valid (solidOf file)
 unfolding bufferQuestions
 buffer-valid file ray need room v = hit-valid file ray (yes-append (hitQuestions file ray) ((14, leb need room) ∷ []) v .0)
 
@@ -68,7 +69,7 @@ hit-numbered file ray k h =
 hit-refusal : (file : List ℕ) (ray : Ray) {n : ℕ} → firstNo (hitQuestions file ray) ≡ No n → (1 ≤ n) × (n ≤ 13)
 hit-refusal file ray e = no-numbered 1 13 (hitQuestions file ray) (hit-numbered file ray 13 (omega arith)) e
 
-buffer-refusal : (file : List ℕ) (ray : Ray) (need room : ℕ) {n : ℕ} → firstNo (bufferQuestions file ray need room) ≡ No n → (1 ≤ n) × (n ≤ 14)
+pub buffer-refusal : (file : List ℕ) (ray : Ray) (need room : ℕ) {n : ℕ} → firstNo (bufferQuestions file ray need room) ≡ No n → (1 ≤ n) × (n ≤ 14)
 unfolding bufferQuestions
 buffer-refusal file ray need room e =
     no-numbered 1 14 (bufferQuestions file ray need room)
@@ -86,7 +87,44 @@ module _ (solid : Solid) (ray : Ray) where
   unfolding Sound
   no-ticks T t h x = absurd (omega arith)
 
-  -- ---- a ray of 2^k ticks, by the verdict of a call's questions
+  -- ---- a cast of T ticks that answers w, with the marks ms of all of them, if it is not refused
+
+  module _ (T count most budget : ℕ) (w : CastAnswer) (ms : List ℕ) (counted : Counted T count most budget w) (long : length ms ≡ T)
+      (own : Valid solid → (t : ℕ) → t < T → getD ms t notLookedAt ≡ markOf solid ray T t) where
+    -- it looks at no more ticks than there are
+    looked-few : castLookedAt T w ≤ T
+    unfolding Counted castLookedAt
+    looked-few = go w counted
+      where
+        go : (w : CastAnswer) → Counted T count most budget w → castLookedAt T w ≤ T
+        go (cast.Refused n) c = omega arith
+        go (cast.Complete p) c = omega arith
+        go (cast.Spent t p) (before, is, more, few) = omega arith
+
+    handed-alone : Valid solid → (lent : List ℕ) → Alone solid ray T (castLookedAt T w) (marksAfter Yes T w ms lent)
+    unfolding marksAfter handed Alone
+    handed-alone valid lent t h =
+        let looked = castLookedAt T w in
+        let written = take looked ms in
+        let full : length written ≡ looked = length-take-le looked ms (omega (arith, looked-few, long)) in
+        let rest = replicate {A = ℕ} (T - looked) notLookedAt in
+        List·getD-append (written ++ rest) (drop T lent) notLookedAt t (omega (arith, full, length-append written rest))
+        ∙ List·getD-append written rest notLookedAt t (omega (arith, full))
+        ∙ getD-take looked ms t notLookedAt h
+        ∙ own valid t (omega (arith, looked-few))
+
+    -- its demands, by the verdict of its questions
+    pub marks-by : 1 ≤ T → (v : Verdict) (lent : List ℕ) → (v ≡ Yes → Valid solid) → ((n : ℕ) → v ≡ No n → (1 ≤ n) × (n ≤ 14))
+        → MarkDemands solid ray T count most budget (castAfter v w) (marksAfter v T w ms lent)
+    unfolding castAfter marksAfter castLookedAt Alone Counted
+    marks-by hT Yes lent valid number = record {
+      alone = handed-alone (valid refl) lent;
+      counted = counted;
+      sound = sound (valid refl) hT (castLookedAt T w);
+    }
+    marks-by hT (No n) lent valid number = record { alone = λ t h. absurd (omega arith); counted = number n refl; sound = no-ticks T }
+
+  -- ---- a ray of 2^k ticks
 
   module _ (k : ℕ) where
     abbrev st : ℕ → ℕ → ℕ
@@ -99,24 +137,7 @@ module _ (solid : Solid) (ray : Ray) where
       pub ray-walked : Walked st budget k 0 0 (rayWalk solid ray k budget)
       ray-walked = walked st budget k 0 0 (omega arith)
 
-      -- it looks at no more ticks than there are
-      looked-few : castLookedAt (2 ^ k) (rayWalk solid ray k budget) ≤ 2 ^ k
-      looked-few = rw zero-add at (looked-within st budget k 0 0 (rayWalk solid ray k budget) ray-walked .1)
-
-      handed-alone : Valid solid → (lent : List ℕ)
-          → Alone solid ray (2 ^ k) (castLookedAt (2 ^ k) (rayWalk solid ray k budget)) (marksAfter Yes solid ray k budget lent)
-      unfolding marksAfter handed Alone
-      handed-alone valid lent t h =
-          let looked = castLookedAt (2 ^ k) (rayWalk solid ray k budget) in
-          let written = take looked (rayMarks solid ray k) in
-          let long : length written ≡ looked = length-take-le looked (rayMarks solid ray k) (omega (arith, looked-few, length-marks st k 0)) in
-          let rest = replicate {A = ℕ} (2 ^ k - looked) notLookedAt in
-          List·getD-append (written ++ rest) (drop (2 ^ k) lent) notLookedAt t (omega (arith, long, length-append written rest))
-          ∙ List·getD-append written rest notLookedAt t (omega (arith, long))
-          ∙ getD-take looked (rayMarks solid ray k) t notLookedAt h
-          ∙ ray-marks-at solid valid ray k t notLookedAt (omega (arith, looked-few))
-
-      walk-counted : (w : CastAnswer) → Walked st budget k 0 0 w → Counted solid ray k budget w
+      walk-counted : (w : CastAnswer) → Walked st budget k 0 0 w → Counted (2 ^ k) (rayProbes solid ray k) (enough (2 ^ k)) budget w
       unfolding Counted
       walk-counted (cast.Complete p) (is, in-budget) = (omega arith, omega arith, at-most)
       walk-counted (cast.Spent t p) (is, more, from, before) = (omega arith, is, omega arith, at-most)
@@ -148,14 +169,12 @@ module _ (solid : Solid) (ray : Ray) where
       -- ---- the demands of a call, by the verdict of its questions
 
       pub cast-by : (v : Verdict) (lent : List ℕ) → (v ≡ Yes → Valid solid) → ((n : ℕ) → v ≡ No n → (1 ≤ n) × (n ≤ 14))
-          → CastDemands solid ray k budget (castAfter v solid ray k budget) (marksAfter v solid ray k budget lent)
-      unfolding castAfter marksAfter castLookedAt Alone Counted
-      cast-by Yes lent valid number = record {
-        alone = handed-alone (valid refl) lent;
-        counted = walk-counted (rayWalk solid ray k budget) ray-walked;
-        sound = sound (valid refl) (pow-pos k) (castLookedAt (2 ^ k) (rayWalk solid ray k budget));
-      }
-      cast-by (No n) lent valid number = record { alone = λ t h. absurd (omega arith); counted = number n refl; sound = no-ticks (2 ^ k) }
+          → CastDemands solid ray k budget (castAfter v (rayWalk solid ray k budget))
+          (marksAfter v (2 ^ k) (rayWalk solid ray k budget) (rayMarks solid ray k) lent)
+      cast-by =
+          marks-by (2 ^ k) (rayProbes solid ray k) (enough (2 ^ k)) budget (rayWalk solid ray k budget) (rayMarks solid ray k)
+          (walk-counted (rayWalk solid ray k budget) ray-walked) (length-marks st k 0)
+          (λ valid t h. ray-marks-at solid valid ray k t notLookedAt h) (pow-pos k)
 
       pub hit-by : (v : Verdict) → (v ≡ Yes → Valid solid) → ((n : ℕ) → v ≡ No n → (1 ≤ n) × (n ≤ 13))
           → HitDemands solid ray k budget (hitAfter v solid ray k budget)

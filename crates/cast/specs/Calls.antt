@@ -38,21 +38,25 @@ rayHit solid ray k budget = hit (rayState solid ray (2 ^ k)) budget k 0 0
 
 -- ---- "Full cast: 1,024 mark bytes, probes, complete or spent with the tick reached."
 
-unfoldable pub castAfter : Verdict → Solid → Ray → ℕ → ℕ → CastAnswer
-castAfter Yes solid ray k budget = rayWalk solid ray k budget
-castAfter (No number) solid ray k budget = cast.Refused number
+-- the answer, by the verdict on its questions, of a cast that gives w if it is not refused
+unfoldable pub castAfter : Verdict → CastAnswer → CastAnswer
+castAfter Yes w = w
+castAfter (No number) w = cast.Refused number
 
 unfoldable pub fullCast : List ℕ → Ray → ℕ → ℕ → CastAnswer
-fullCast file ray budget room = castAfter (firstNo (bufferQuestions file ray (2 ^ exponent) room)) (solidOf file) ray exponent budget
+fullCast file ray budget room =
+    castAfter (firstNo (bufferQuestions file ray (2 ^ exponent) room)) (rayWalk (solidOf file) ray exponent budget)
 
--- the buffer afterwards: the marks, and "Bytes past that are never written"; "output bytes keep their contents" if it is refused
-unfoldable pub marksAfter : Verdict → Solid → Ray → ℕ → ℕ → List ℕ → List ℕ
-marksAfter Yes solid ray k budget lent = handed (2 ^ k) (rayWalk solid ray k budget) (rayMarks solid ray k) ++ drop (2 ^ k) lent
-marksAfter (No number) solid ray k budget lent = lent
+-- the buffer afterwards, of such a cast of T ticks whose marks are ms: the marks handed over, and "Bytes past that are never written"; "output bytes
+-- keep their contents" if it is refused
+unfoldable pub marksAfter : Verdict → ℕ → CastAnswer → List ℕ → List ℕ → List ℕ
+marksAfter Yes T w ms lent = handed T w ms ++ drop T lent
+marksAfter (No number) T w ms lent = lent
 
 unfoldable pub marksLeft : List ℕ → Ray → ℕ → List ℕ → List ℕ
 marksLeft file ray budget lent =
-    marksAfter (firstNo (bufferQuestions file ray (2 ^ exponent) (length lent))) (solidOf file) ray exponent budget lent
+    marksAfter (firstNo (bufferQuestions file ray (2 ^ exponent) (length lent)))
+    (2 ^ exponent) (rayWalk (solidOf file) ray exponent budget) (rayMarks (solidOf file) ray exponent) lent
 
 -- ---- "First hit"
 

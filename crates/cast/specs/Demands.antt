@@ -49,16 +49,21 @@ module _ (solid : Solid) (ray : Ray) (T : ℕ) where
   AloneHit (found.Clear probes) = Empty T
   AloneHit (found.Spent tick probes) = (tick < T) × Empty tick
 
-module _ (solid : Solid) (ray : Ray) (k : ℕ) where
-  -- "a full cast is spent exactly when the probe count of the whole ray is more than its budget; the probes it reports are the smaller of the two",
-  -- and there is a budget that "is always enough". Spent, it leaves ticks not looked at. A refusal is 1 to 14.
-  unfoldable pub Counted : ℕ → CastAnswer → Type 0
-  Counted budget (cast.Refused number) = (1 ≤ number) × (number ≤ 14)
-  Counted budget (cast.Complete probes) =
-      (probes ≡ rayProbes solid ray k) × (rayProbes solid ray k ≤ budget) × (rayProbes solid ray k ≤ enough (2 ^ k))
-  Counted budget (cast.Spent tick probes) =
-      (tick < 2 ^ k) × (probes ≡ budget) × (budget < rayProbes solid ray k) × (rayProbes solid ray k ≤ enough (2 ^ k))
+-- "a full cast is spent exactly when the probe count of the whole ray is more than its budget; the probes it reports are the smaller of the two", and
+-- there is a budget that "is always enough": of T ticks, whose probe count is `count` and never more than `most`. Spent, a cast leaves ticks not looked
+-- at. A refusal is 1 to 14.
+unfoldable pub Counted : (T count most budget : ℕ) → CastAnswer → Type 0
+Counted T count most budget (cast.Refused number) = (1 ≤ number) × (number ≤ 14)
+Counted T count most budget (cast.Complete probes) = (probes ≡ count) × (count ≤ budget) × (count ≤ most)
+Counted T count most budget (cast.Spent tick probes) = (tick < T) × (probes ≡ budget) × (budget < count) × (count ≤ most)
 
+-- demands 2 and 3 of a cast that hands over T ticks' marks: of its answer, and of the bytes afterwards in the buffer that was lent
+pub record MarkDemands (solid : Solid) (ray : Ray) (T count most budget : ℕ) (answer : CastAnswer) (after : List ℕ) : Type 0 where
+  pub alone : Alone solid ray T (castLookedAt T answer) after
+  pub counted : Counted T count most budget answer
+  pub sound : Sound solid ray T (castLookedAt T answer)
+
+module _ (solid : Solid) (ray : Ray) (k : ℕ) where
   -- a first hit, "always the probes": a clear ray's are the full cast's, a hit's are no more, and a spent search has made its whole budget, which is
   -- less than the full cast's. A refusal is 1 to 13.
   unfoldable pub CountedHit : ℕ → HitAnswer → Type 0
@@ -85,10 +90,9 @@ module _ (solid : Solid) (ray : Ray) (k : ℕ) where
 
   -- ---- demands 2 and 3 of a call's answer, and of the bytes afterwards in the buffer that was lent
 
-  pub record CastDemands (budget : ℕ) (answer : CastAnswer) (after : List ℕ) : Type 0 where
-    pub alone : Alone solid ray (2 ^ k) (castLookedAt (2 ^ k) answer) after
-    pub counted : Counted budget answer
-    pub sound : Sound solid ray (2 ^ k) (castLookedAt (2 ^ k) answer)
+  -- a full cast: the count is that of the halvings
+  abbrev pub CastDemands : ℕ → CastAnswer → List ℕ → Type 0
+  CastDemands budget answer after = MarkDemands solid ray (2 ^ k) (rayProbes solid ray k) (enough (2 ^ k)) budget answer after
 
   pub record HitDemands (budget : ℕ) (answer : HitAnswer) : Type 0 where
     pub alone : AloneHit solid ray (2 ^ k) answer

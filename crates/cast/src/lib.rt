@@ -85,7 +85,7 @@ fn load_hit(file: &[u8], ray: Ray, out: &mut [i64; PREPARED]) -> Checked
 }
 
 // Questions 1 to 14, with the same numbers.
-fn load_buffer(
+pub fn load_buffer(
     file: &[u8],
     ray: Ray,
     need: usize,

@@ -19,6 +19,8 @@ use Rattle.cast.specs.Column.{columnNumber}
 use Rattle.cast.specs.Ticks.{exponent}
 use Rattle.cast.specs.Calls.{fullCast, firstHit, columnAnswer}
 use Rattle.cast.proofs.Calls.{CastPromised, HitPromised, ColumnPromised}
+use Rattle.march.specs.Calls.{marchingCast}
+use Rattle.march.proofs.Calls.{MarchPromised}
 use Rattle.view.specs.declared.ViewRay.{ViewRay}
 use Rattle.view.specs.Call.{viewOf, viewerTicks, viewerFirstHit}
 use Rattle.view.specs.Demands.{ViewDemands}
@@ -32,7 +34,7 @@ use Rattle.writer.specs.declared.Written.{Written}
 use Rattle.writer.specs.Writer.{writeAnswer, bufferLeft, WriteSays, Returned}
 use Rattle.numbers.specs.Numbers.{checkNumber, boundsNumber, boundsLeft, writeNumber, lentAfter, savedNumber, savedLeft}
 use Rattle.numbers.proofs.Numbers.{check-told, bounds-told, write-told, saved-told}
-use Rattle.fenalukki.specs.Host.{HostCast, HostHit, HostColumn, HostCheck, HostBounds, HostView, HostRead, HostWrite, HostRestore}
+use Rattle.fenalukki.specs.Host.{HostCast, HostMarch, HostHit, HostColumn, HostCheck, HostBounds, HostView, HostRead, HostWrite, HostRestore}
 
 -- what is left in the lent totals, of an answer a that is b
 left-is : {A : Type 0} (tallyOf : A → Tally) (totals : List ℕ) {a b : A} {tally : Tally} {left : List ℕ}
@@ -44,6 +46,12 @@ module _ (file : List ℕ) {ray hosts : Ray} (same : ray ≡ hosts) where
       → CastPromised file ray budget lent w after → number ≡ castNumber w → HostCast file hosts budget lent number after
   host-cast budget lent w after {number} (answer, (bytes, demands)) is =
       subst (λ (ray : Ray). HostCast file ray budget lent number after) same
+      (record { number-is = is ∙ ap castNumber answer; bytes = bytes; demands = rw (← answer) demands })
+
+  pub host-march : (budget : ℕ) (lent : List ℕ) (w : CastAnswer) (after : List ℕ) {number : ℕ}
+      → MarchPromised file ray budget lent w after → number ≡ castNumber w → HostMarch file hosts budget lent number after
+  host-march budget lent w after {number} (answer, (bytes, demands)) is =
+      subst (λ (ray : Ray). HostMarch file ray budget lent number after) same
       (record { number-is = is ∙ ap castNumber answer; bytes = bytes; demands = rw (← answer) demands })
 
   pub host-hit : (budget : ℕ) (f : HitAnswer) {number : ℕ} → HitPromised file ray budget f → number ≡ hitNumber f → HostHit file hosts budget number
@@ -62,6 +70,11 @@ module _ (file : List ℕ) {ray hosts : Ray} (same : ray ≡ hosts) where
         → CastPromised file ray budget lent w after → tally ≡ castTally w
         → left ≡ lentAfter (castTally (fullCast file hosts budget (length lent))) totals
     cast-counted budget lent w p t = left-is castTally totals (p .0 ∙ ap (λ (ray : Ray). fullCast file ray budget (length lent)) same) t is
+
+    pub march-counted : (budget : ℕ) (lent : List ℕ) (w : CastAnswer) {after : List ℕ}
+        → MarchPromised file ray budget lent w after → tally ≡ castTally w
+        → left ≡ lentAfter (castTally (marchingCast file hosts budget (length lent))) totals
+    march-counted budget lent w p t = left-is castTally totals (p .0 ∙ ap (λ (ray : Ray). marchingCast file ray budget (length lent)) same) t is
 
     pub hit-counted : (budget : ℕ) (f : HitAnswer) → HitPromised file ray budget f → tally ≡ hitTally f
         → left ≡ lentAfter (hitTally (firstHit file hosts budget)) totals

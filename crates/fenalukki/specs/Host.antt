@@ -1,4 +1,4 @@
--- What a host in C gets from each call (document 01, "Calls"; document 02, P2 and P4): its number, what was lent afterwards, and all that the call
+-- What a host in C gets from each call (document 01, "Calls"; document 02, P2, P4 and P5): its number, what was lent afterwards, and all that the call
 -- promises of the answer that the number stands for, demands 2 and 3 included.
 use mathlib.Core.Path.{_≡_}
 use mathlib.Core.List.{List}
@@ -15,6 +15,8 @@ use Rattle.cast.specs.Calls.{fullCast, marksLeft, firstHit, columnAnswer, bitsL
 use Rattle.halving.specs.Numbers.{castNumber, hitNumber}
 use Rattle.cast.specs.Column.{columnNumber}
 use Rattle.cast.specs.Demands.{CastDemands, HitDemands, ColumnDemands}
+use Rattle.march.specs.Calls.{marchingCast, marchedLeft}
+use Rattle.march.specs.Demands.{MarchDemands}
 use Rattle.view.specs.declared.ViewRay.{ViewRay}
 use Rattle.view.specs.Call.{viewerTicks, viewerFirstHit}
 use Rattle.view.specs.Demands.{ViewDemands}
@@ -28,6 +30,12 @@ pub record HostCast (file : List ℕ) (ray : Ray) (budget : ℕ) (lent : List �
   pub number-is : number ≡ castNumber (fullCast file ray budget (length lent))
   pub bytes : after ≡ marksLeft file ray budget lent
   pub demands : CastDemands (solidOf file) ray exponent budget (fullCast file ray budget (length lent)) after
+
+-- a marching cast's number, which is a full cast's for each case of the answer, and the bytes afterwards in the buffer that was lent
+pub record HostMarch (file : List ℕ) (ray : Ray) (budget : ℕ) (lent : List ℕ) (number : ℕ) (after : List ℕ) : Type 0 where
+  pub number-is : number ≡ castNumber (marchingCast file ray budget (length lent))
+  pub bytes : after ≡ marchedLeft file ray budget lent
+  pub demands : MarchDemands (solidOf file) ray exponent budget (marchingCast file ray budget (length lent)) after
 
 -- a first hit's number
 pub record HostHit (file : List ℕ) (ray : Ray) (budget number : ℕ) : Type 0 where

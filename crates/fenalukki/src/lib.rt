@@ -1,10 +1,11 @@
-// The entries for hosts in C: functions on a part file's bytes, numbers and lent buffers (document 01, "Calls"; document 02, P2 and
-// P4). The slicing host's three come first, which are lent no totals. include/fenalukki.h is what a C program includes.
+// The entries for hosts in C: functions on a part file's bytes, numbers and lent buffers (document 01, "Calls"; document 02, P2, P4
+// and P5). The slicing host's three come first, which are lent no totals. include/fenalukki.h is what a C program includes.
 
 use bounds::place_bounds;
 use cast::column;
 use cast::first_hit;
 use cast::full_cast;
+use march::marching_cast;
 use nodes::load;
 use numbers::bounds_number;
 use numbers::cast_number;
@@ -28,11 +29,12 @@ use writer::write;
 ghost use mathlib.Core.Path.{_≡_};
 ghost use lib.ListN.{length};
 ghost use Rattle.cast.specs.Calls.{fullCast, firstHit, columnAnswer};
+ghost use Rattle.march.specs.Calls.{marchingCast};
 ghost use Rattle.view.specs.Call.{viewerFirstHit};
 ghost use Rattle.tally.specs.Counts.{castTally, hitTally, columnTally, viewTally};
 ghost use Rattle.numbers.specs.Numbers.{placeAt, rayOf, viewRayOf, lentAfter};
 ghost use Rattle.fenalukki.specs.Host.{HostCast, HostHit, HostColumn, HostCheck, HostBounds, HostView, HostRead, HostWrite};
-ghost use Rattle.fenalukki.specs.Host.{HostRestore};
+ghost use Rattle.fenalukki.specs.Host.{HostRestore, HostMarch};
 
 // Full cast: 1,024 mark bytes, as far as the budget goes.
 #[no_mangle]
@@ -108,6 +110,24 @@ pub extern "C" fn fenalukki_place_bounds(
     ensures { λ r. ⌜ HostBounds (now (file .entry)) (placeAt x y z) (now (bounds .entry)) r (now (bounds .exit)) ⌝ }
 {
     bounds_number(place_bounds(file, place_at(x, y, z)), bounds)
+}
+
+// Marching full cast: 1,024 mark bytes, as far as the budget goes.
+#[no_mangle]
+pub extern "C" fn fenalukki_marching_cast(
+    file: &[u8],
+    ax: i32,
+    ay: i32,
+    az: i32,
+    bx: i32,
+    by: i32,
+    bz: i32,
+    budget: u32,
+    marks: &mut [u8],
+) -> u32
+    ensures { λ r. ⌜ HostMarch (now (file .entry)) (rayOf ax ay az bx by bz) budget (now (marks .entry)) r (now (marks .exit)) ⌝ }
+{
+    cast_number(marching_cast(file, ray_of(ax, ay, az, bx, by, bz), budget, marks))
 }
 
 // Viewer's first hit, in ticks.
@@ -209,6 +229,28 @@ pub extern "C" fn fenalukki_column_counted(
     let answer = column(file, ray_of(ax, ay, az, bx, by, bz), bits);
     count_lent(column_tally(answer), totals);
     column_number(answer)
+}
+
+#[no_mangle]
+pub extern "C" fn fenalukki_marching_cast_counted(
+    file: &[u8],
+    ax: i32,
+    ay: i32,
+    az: i32,
+    bx: i32,
+    by: i32,
+    bz: i32,
+    budget: u32,
+    marks: &mut [u8],
+    totals: &mut [u64; 3],
+) -> u32
+    ensures called { λ r. ⌜ HostMarch (now (file .entry)) (rayOf ax ay az bx by bz) budget (now (marks .entry)) r (now (marks .exit)) ⌝ }
+    ensures counted { λ _. ⌜ now (totals .exit) ≡ lentAfter
+        (castTally (marchingCast (now (file .entry)) (rayOf ax ay az bx by bz) budget (length (now (marks .entry))))) (now (totals .entry)) ⌝ }
+{
+    let marched = marching_cast(file, ray_of(ax, ay, az, bx, by, bz), budget, marks);
+    count_lent(cast_tally(marched), totals);
+    cast_number(marched)
 }
 
 #[no_mangle]

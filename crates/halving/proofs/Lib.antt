@@ -1,4 +1,5 @@
 pub mod Halving
 pub mod FirstHit
 pub mod SameOrder
+pub mod Handed
 pub mod Span

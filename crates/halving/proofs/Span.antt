@@ -5,9 +5,10 @@ use Prim.Native.Nat.{ℕ, suc, _+_, _-_, _/_, _^_, _≤_, _<_}
 use native.Mathlib.Nat.{zero-add, sub-zero}
 use native.Mathlib.Omega.{arith, pow-step}
 use borrow.Author.Tests.{eq-eqb, ne-eqb}
-use lib.ListN.{length, take, drop, replicate, length-append, length-replicate}
-use lib.Seq.{sets, length-take-le, take-all, take-append-le, take-append-add}
-use Rattle.exact.proofs.Buffers.{sets-append, sets-whole}
+use lib.ListN.{length, take, drop, replicate}
+use lib.Seq.{sets, take-all, take-append-le, take-append-add}
+use Rattle.exact.proofs.Buffers.{sets-append}
+use Rattle.field.specs.Bounds.{notLookedAt}
 use Rattle.halving.specs.declared.CastAnswer.{CastAnswer}
 use Rattle.halving.specs.declared.CastAnswer.the-variants as cast
 use Rattle.halving.specs.declared.HitAnswer.{HitAnswer}
@@ -18,6 +19,7 @@ use Rattle.halving.specs.FirstHit.{orElse, finished, hit}
 use Rattle.halving.proofs.Halving.{marks-split, marks-finished, length-marks}
 use Rattle.halving.proofs.Halving.{walk-out, walk-finished, walk-split, Walked, walked, looked-within}
 use Rattle.halving.proofs.FirstHit.{hit-finished, hit-split}
+use Rattle.halving.proofs.Handed.{handed-over}
 
 -- ---- halves
 
@@ -131,30 +133,22 @@ module _ (st : ℕ → ℕ → ℕ) (b k i m len : ℕ) (size : len ≡ 2 ^ k) (
               ∙ ap (λ (n : ℕ). sets out i (take (castLookedAt n r - i) (spanMarks st k i))) end,
         )
 
--- the whole ray: what was not looked at is marked 3
+-- the whole ray
 module _ (st : ℕ → ℕ → ℕ) (b k n : ℕ) (size : n ≡ 2 ^ k) (w : CastAnswer) (is : w ≡ walk st b k 0 0) where
   pub reached-within : castLookedAt n w ≤ n
   reached-within =
       subst (λ (n : ℕ). castLookedAt n w ≤ n) (zero-add (2 ^ k) ∙ sym size)
       (looked-within st b k 0 0 w (subst (Walked st b k 0 0) (sym is) (walked st b k 0 0 (omega arith))) .1)
 
-  pub handed-over : (out l l′ : List ℕ) (t : ℕ) → n ≤ length out → t ≡ castLookedAt n w
-      → l ≡ sets out 0 (take (castLookedAt (0 + n) w - 0) (spanMarks st k 0)) → l′ ≡ sets l t (replicate (n - t) 3)
+  pub walk-handed : (out l l′ : List ℕ) → n ≤ length out
+      → l ≡ sets out 0 (take (castLookedAt (0 + n) w - 0) (spanMarks st k 0))
+      → l′ ≡ sets l (castLookedAt n w) (replicate (n - castLookedAt n w) notLookedAt)
       → l′ ≡ handed n w (spanMarks st k 0) ++ drop n out
-  unfolding handed
-  handed-over out l l′ t room t-is wrote filled =
-      let ms = spanMarks st k 0 in
-      let looked = castLookedAt n w in
-      let rest = replicate {A = ℕ} (n - looked) 3 in
-      let at : castLookedAt (0 + n) w - 0 ≡ looked = sub-zero (castLookedAt (0 + n) w) ∙ ap (λ (n : ℕ). castLookedAt n w) (zero-add n) in
-      let rest-long : length rest ≡ n - looked = length-replicate {A = ℕ} (n - looked) 3 in
-      let long : length (take looked ms) ≡ looked = length-take-le looked ms (omega (arith, reached-within, length-marks st k 0, size)) in
-      filled
-      ∙ ap (λ (t : ℕ). sets l t (replicate (n - t) 3)) t-is
-      ∙ ap (λ (l : List ℕ). sets l looked rest) (wrote ∙ ap (λ (t : ℕ). sets out 0 (take t ms)) at)
-      ∙ ap (λ (i : ℕ). sets (sets out 0 (take looked ms)) i rest) (sym (zero-add (length (take looked ms)) ∙ long))
-      ∙ sets-append (take looked ms) rest out 0
-      ∙ sets-whole (take looked ms ++ rest) out n (omega (arith, length-append (take looked ms) rest, long, rest-long, reached-within)) room
+  walk-handed out l l′ room wrote rest =
+      let at : castLookedAt (0 + n) w - 0 ≡ castLookedAt n w =
+      sub-zero (castLookedAt (0 + n) w) ∙ ap (λ (n : ℕ). castLookedAt n w) (zero-add n) in
+      handed-over n w (spanMarks st k 0) (length-marks st k 0 ∙ sym size) reached-within out l l′ room
+      (wrote ∙ ap (λ (t : ℕ). sets out 0 (take t (spanMarks st k 0))) at) rest
 
 -- ---- the first hit
 

@@ -12,6 +12,7 @@ ghost use mathlib.Core.List.{_++_};
 ghost use Prim.Native.Nat.{_+_, _-_, _≤_};
 ghost use lib.ListN.{length, take, drop, replicate};
 ghost use lib.Seq.{sets};
+ghost use Rattle.field.specs.Bounds.{notLookedAt};
 ghost use Rattle.halving.specs.Halving.{spanMarks, walk, castLookedAt, handed};
 ghost use Rattle.halving.specs.FirstHit.{hit};
 ghost use Rattle.halving.specs.Search.{Searchable, Halvable, stateIn};
@@ -42,7 +43,7 @@ pub struct Search {
 // ---- the search
 
 // One probe: the state of the ticks from tick first on.
-fn probe(prepared: &[i64], s: Search, first: usize, len: usize) -> u8
+pub fn probe(prepared: &[i64], s: Search, first: usize, len: usize) -> u8
     requires { ⌜ Searchable (now prepared) s ⌝ }
     requires { ⌜ first + len ≤ s .ticks ⌝ }
     ensures { λ r. ⌜ r ≡ stateIn (now (prepared .entry)) s first len ⌝ }
@@ -56,7 +57,7 @@ fn probe(prepared: &[i64], s: Search, first: usize, len: usize) -> u8
 }
 
 // The same mark for len ticks from tick first on.
-fn fill(marks: &mut [u8], first: usize, len: usize, mark: u8)
+pub fn fill(marks: &mut [u8], first: usize, len: usize, mark: u8)
     requires { ⌜ first + len ≤ length (now marks) ⌝ }
     ensures { λ _. ⌜ now (marks .exit) ≡ sets (now (marks .entry)) first (replicate len mark) ⌝ }
 {
@@ -115,6 +116,17 @@ fn looked_at(n: usize, answer: CastAnswer) -> usize
     }
 }
 
+// Marks 3 the ticks that a cast of so many did not look at.
+pub fn mark_rest(out: &mut [u8], ticks: usize, answer: CastAnswer)
+    requires { ⌜ castLookedAt ticks answer ≤ ticks ⌝ }
+    requires { ⌜ ticks ≤ length (now out) ⌝ }
+    ensures { λ _. ⌜ now (out .exit)
+        ≡ sets (now (out .entry)) (castLookedAt ticks answer) (replicate (ticks - castLookedAt ticks answer) notLookedAt) ⌝ }
+{
+    let reached = looked_at(ticks, answer);
+    fill(out, reached, ticks - reached, NOT_LOOKED_AT);
+}
+
 // Casts a whole ray, of two to the power level ticks, and hands over every tick's mark, 3 for those not looked at.
 pub fn cast_ticks(out: &mut [u8], prepared: &[i64], s: Search, level: usize) -> CastAnswer
     requires { ⌜ Searchable (now prepared) s ⌝ }
@@ -125,8 +137,7 @@ pub fn cast_ticks(out: &mut [u8], prepared: &[i64], s: Search, level: usize) -> 
         ≡ handed (s .ticks) r (spanMarks (stateIn (now (prepared .entry)) s) level 0) ++ drop (s .ticks) (now (out .entry)) ⌝ }
 {
     let answer = cast_span(out, prepared, s, 0, s.ticks, level, 0);
-    let reached = looked_at(s.ticks, answer);
-    fill(out, reached, s.ticks - reached, NOT_LOOKED_AT);
+    mark_rest(out, s.ticks, answer);
     answer
 }
 

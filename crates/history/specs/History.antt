@@ -1,19 +1,21 @@
--- Histories of running totals (document 02, P4): what is done to them, one after the other, and what that adds.
+-- Histories of running totals (document 02, P4 and P5): what is done to them, one after the other, and what that adds.
 use mathlib.Core.Path.{_≡_}
 use mathlib.Core.List.{List, [], _∷_}
 use Prim.Native.Nat.{ℕ, _+_}
 use lib.ListN.{length}
 use Rattle.tally.specs.declared.Totals.{Totals}
+use Rattle.tally.specs.declared.Tally.the-variants as tally
 use Rattle.tally.specs.declared.Saved.the-variants.{Refused}
 use Rattle.tally.specs.Counts.{viewTally, Total, adds}
 use Rattle.tally.specs.Saved.{readSaved}
 use Rattle.totals.specs.declared.Call.{Call}
+use Rattle.totals.specs.declared.Call.the-variants as call
 use Rattle.totals.specs.declared.ViewCall.{ViewCall}
 use Rattle.totals.specs.Calls.{answerTo, tallyOf, totalsAfter, viewTo, totalsAfterView, totalsRestored}
 use Rattle.numbers.specs.Numbers.{lentAfter, savedLeft}
 
--- one thing done: a full cast, first hit or column on a file, with the buffer that was lent; a viewer's first hit on a file; a saved record handed
--- over to be read
+-- one thing done: a full cast, first hit, column or marching cast on a file, with the buffer that was lent; a viewer's first hit on a file; a saved
+-- record handed over to be read
 pub data Event : Type 0 where
   performed : (file : List ℕ) → Call → (buffer : List ℕ) → Event
   viewed : (file : List ℕ) → ViewCall → Event
@@ -78,3 +80,16 @@ Unread (restored saved) = readSaved saved ≡ Refused 18
 
 abbrev pub NoneRead : List Event → Type 0
 NoneRead h = Every Unread h
+
+-- "records that no marching cast has changed": every marching cast was refused, which adds to the refusals alone
+unfoldable pub Unmarched : Event → Type 0
+Unmarched (performed file (call.MarchingCast ray budget) buffer) =
+    tallyOf (answerTo file (call.MarchingCast ray budget) (length buffer)) ≡ tally.Refused
+Unmarched (performed file (call.FullCast ray budget) buffer) = Unit {0}
+Unmarched (performed file (call.FirstHit ray budget) buffer) = Unit {0}
+Unmarched (performed file (call.Column ray) buffer) = Unit {0}
+Unmarched (viewed file call) = Unit {0}
+Unmarched (restored saved) = Unit {0}
+
+abbrev pub NoneMarched : List Event → Type 0
+NoneMarched h = Every Unmarched h

@@ -61,13 +61,15 @@ pub hosts-ray : (ax ay az bx by bz : ℤ) {ray : Ray}
 hosts-ray ax ay az bx by bz f g h i j k e =
     e ∙ simp (toZ-ofZ f, toZ-ofZ g, toZ-ofZ h, toZ-ofZ i, toZ-ofZ j, toZ-ofZ k)
 
-module _ (solid : Solid) (ray : Ray) (k : ℕ) (few : 2 ^ k ≤ 4096) where
-  pub cast-number-fits : (budget : ℕ) (w : CastAnswer) → Counted solid ray k budget w → castNumber w < 2 ^ 32
-  unfolding castNumber Counted
-  cast-number-fits budget (cast.Refused n) (low, high) = omega arith
-  cast-number-fits budget (cast.Complete p) (is, in-budget, most) = omega (arith, few)
-  cast-number-fits budget (cast.Spent t p) (before, all, more, most) = omega (arith, few)
+-- a cast that hands over marks, with at most `most` probes
+pub cast-number-fits : (T count : ℕ) {most : ℕ} (budget : ℕ) → most < 2 ^ 16 → (w : CastAnswer) → Counted T count most budget w
+    → castNumber w < 2 ^ 32
+unfolding castNumber Counted
+cast-number-fits T count budget few (cast.Refused n) (low, high) = omega arith
+cast-number-fits T count budget few (cast.Complete p) (is, in-budget, at-most) = omega (arith, few)
+cast-number-fits T count budget few (cast.Spent t p) (before, all, more, at-most) = omega (arith, few)
 
+module _ (solid : Solid) (ray : Ray) (k : ℕ) (few : 2 ^ k ≤ 4096) where
   pub hit-number-fits : (budget : ℕ) (f : HitAnswer) → AloneHit solid ray (2 ^ k) f → CountedHit solid ray k budget f → hitNumber f < 2 ^ 64
   unfolding hitNumber AloneHit CountedHit
   hit-number-fits budget (found.Refused n) alone (low, high) = omega arith

@@ -22,11 +22,13 @@ use Rattle.testhost.specs.Entries.{viewCallOf}
 pub number-fits : (file : List ℕ) (c : Call) (lent : List ℕ) (r : Answer) (after : List ℕ) → Performed file c lent r after → NumberFits r
 unfolding NumberFits answerTo Demanded
 number-fits file (call.FullCast ray budget) lent r after p =
-    rw (p .answer) (cast-number-fits (solidOf file) ray exponent (omega arith) budget _ (p .demands .counted))
+    rw (p .answer) (cast-number-fits _ _ budget (omega arith) _ (p .demands .counted))
 number-fits file (call.FirstHit ray budget) lent r after p =
     rw (p .answer) (hit-number-fits (solidOf file) ray exponent (omega arith) budget _ (p .demands .alone) (p .demands .counted))
 number-fits file (call.Column ray) lent r after p =
     rw (p .answer) (column-number-fits (solidOf file) ray exponent (omega arith) _ (p .demands .counted))
+number-fits file (call.MarchingCast ray budget) lent r after p =
+    rw (p .answer) (cast-number-fits _ _ budget (omega arith) _ (p .demands .marks .counted))
 
 -- an entry's call c is the contract's c′, and t the totals that it was handed in l
 module _ (file : List ℕ) {t u : Totals} (l : List ℕ) {l′ : List ℕ} (in-is : t ≡ totalsIn l) (put : l′ ≡ totalsOut u) where

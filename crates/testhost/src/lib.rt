@@ -67,6 +67,7 @@ fn number_of(answer: Answer) -> u64
         Answer::FullCast(a) => cast_number(a) as u64,
         Answer::FirstHit(a) => hit_number(a),
         Answer::Column(a) => column_number(a) as u64,
+        Answer::MarchingCast(a) => cast_number(a) as u64,
     }
 }
 
@@ -85,10 +86,16 @@ fn call_of(which: u32, ray: Ray, budget: u32) -> Call
             budget: budget,
         };
     }
-    Call::Column { ray: ray }
+    if which == 2 {
+        return Call::Column { ray: ray };
+    }
+    Call::MarchingCast {
+        ray: ray,
+        budget: budget,
+    }
 }
 
-// Full cast, first hit or column, with the totals read from three numbers and stored there; its number.
+// Full cast, first hit, column or marching cast, with the totals read from three numbers and stored there; its number.
 #[no_mangle]
 pub extern "C" fn testhost_call(
     file: &[u8],

@@ -14,6 +14,8 @@ use Rattle.cast.specs.Column.{columnBytes}
 use Rattle.cast.specs.Questions.{hitQuestions, bufferQuestions}
 use Rattle.cast.specs.Calls.{castAfter, fullCast, hitAfter, firstHit, columnAfter, columnAnswer}
 use Rattle.cast.proofs.Calls.{CastPromised, HitPromised, ColumnPromised}
+use Rattle.march.specs.Calls.{marchingCast}
+use Rattle.march.proofs.Calls.{MarchPromised}
 use Rattle.view.specs.declared.ViewAnswer.{ViewAnswer}
 use Rattle.view.specs.Call.{viewQuestions, viewOf, viewerTicks, viewerFirstHit}
 use Rattle.view.specs.Demands.{ViewDemands}
@@ -48,6 +50,12 @@ module _ (file : List ℕ) (ray : Ray) (lent : List ℕ) {c : Call} where
   unfolding answerTo bytesLeft Demanded
   column-performed w after is (a, (bytes, demands)) =
       rw is (record { answer = ap answer.Column a; bytes = bytes; demands = rw (← a) demands })
+
+  pub march-performed : (budget : ℕ) (w : CastAnswer) (after : List ℕ)
+      → c ≡ call.MarchingCast ray budget → MarchPromised file ray budget lent w after → Performed file c lent (answer.MarchingCast w) after
+  unfolding answerTo bytesLeft Demanded
+  march-performed budget w after is (a, (bytes, demands)) =
+      rw is (record { answer = ap answer.MarchingCast a; bytes = bytes; demands = rw (← a) demands })
 
 module _ (file : List ℕ) (c : ViewCall) {r : ViewAnswer} where
   pub viewed : (r ≡ viewerFirstHit file (c .ray) (c .budget)) × ViewDemands file (c .ray) exponent (c .budget) r → Viewed file c r
@@ -90,14 +98,17 @@ abbrev pub questionsOf : List ℕ → Call → ℕ → List Question
 questionsOf file (call.FullCast ray budget) room = bufferQuestions file ray (2 ^ exponent) room
 questionsOf file (call.FirstHit ray budget) room = hitQuestions file ray
 questionsOf file (call.Column ray) room = bufferQuestions file ray columnBytes room
+questionsOf file (call.MarchingCast ray budget) room = bufferQuestions file ray (2 ^ exponent) room
 
 module _ (file : List ℕ) {n : ℕ} (t : Totals) where
   -- a call that its questions refuse counts as a refusal
   pub refused-counts : (c : Call) (room : ℕ) → firstNo (questionsOf file c room) ≡ No n → totalsAfter file c room t ≡ afterTally t Refused
-  unfolding totalsAfter answerTo tallyOf castTally hitTally columnTally fullCast castAfter firstHit hitAfter columnAnswer columnAfter
+  unfolding
+      totalsAfter answerTo tallyOf castTally hitTally columnTally fullCast castAfter firstHit hitAfter columnAnswer columnAfter marchingCast
   refused-counts (call.FullCast ray budget) room e = rw e
   refused-counts (call.FirstHit ray budget) room e = rw e
   refused-counts (call.Column ray) room e = rw e
+  refused-counts (call.MarchingCast ray budget) room e = rw e
 
   pub refused-view-counts : (c : ViewCall) → firstNo (viewQuestions file (c .ray)) ≡ No n → totalsAfterView file c t ≡ afterTally t Refused
   unfolding totalsAfterView viewTo viewTally viewerFirstHit viewerTicks viewOf hitAfter

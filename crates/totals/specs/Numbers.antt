@@ -9,9 +9,11 @@ unfoldable pub numberOf : Answer → ℕ
 numberOf (answer.FullCast a) = castNumber a
 numberOf (answer.FirstHit a) = hitNumber a
 numberOf (answer.Column a) = columnNumber a
+numberOf (answer.MarchingCast a) = castNumber a
 
 -- that it fits the slicing host's width
 unfoldable pub NumberFits : Answer → Type 0
 NumberFits (answer.FullCast a) = castNumber a < 2 ^ 32
 NumberFits (answer.FirstHit a) = hitNumber a < 2 ^ 64
 NumberFits (answer.Column a) = columnNumber a < 2 ^ 32
+NumberFits (answer.MarchingCast a) = castNumber a < 2 ^ 32

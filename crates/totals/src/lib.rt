@@ -1,5 +1,5 @@
-// The casting calls: lent no totals, handed them by value, and, in two thin functions, lent them (document 01, "Calls"); and the reading
-// of a saved record into the totals, by value and lent (document 02, P4).
+// The casting calls: lent no totals, handed them by value, and, in two thin functions, lent them (document 01, "Calls"; document 02,
+// P5); and the reading of a saved record into the totals, by value and lent (document 02, P4).
 
 use cast::ColumnAnswer;
 use cast::column;
@@ -8,6 +8,7 @@ use cast::full_cast;
 use field::Ray;
 use halving::CastAnswer;
 use halving::HitAnswer;
+use march::marching_cast;
 use tally::Saved;
 use tally::Tally;
 use tally::Totals;
@@ -31,6 +32,7 @@ pub enum Call {
     FullCast { ray: Ray, budget: u32 },
     FirstHit { ray: Ray, budget: u32 },
     Column { ray: Ray },
+    MarchingCast { ray: Ray, budget: u32 },
 }
 
 // Its answer.
@@ -38,6 +40,7 @@ pub enum Answer {
     FullCast(CastAnswer),
     FirstHit(HitAnswer),
     Column(ColumnAnswer),
+    MarchingCast(CastAnswer),
 }
 
 // A call of the viewer's first hit.
@@ -73,6 +76,7 @@ fn tally_of(answer: Answer) -> Tally
         Answer::FullCast(a) => cast_tally(a),
         Answer::FirstHit(a) => hit_tally(a),
         Answer::Column(a) => column_tally(a),
+        Answer::MarchingCast(a) => cast_tally(a),
     }
 }
 
@@ -91,7 +95,7 @@ fn count_view(totals: Totals, answer: ViewAnswer) -> Totals
 
 // ---- the calls, lent no totals
 
-// Full cast, first hit or column.
+// Full cast, first hit, column or marching cast.
 pub fn perform(file: &[u8], call: Call, buffer: &mut [u8]) -> Answer
     ensures { λ r. ⌜ Performed (now (file .entry)) call (now (buffer .entry)) r (now (buffer .exit)) ⌝ }
 {
@@ -99,6 +103,9 @@ pub fn perform(file: &[u8], call: Call, buffer: &mut [u8]) -> Answer
         Call::FullCast { ray, budget } => Answer::FullCast(full_cast(file, ray, budget, buffer)),
         Call::FirstHit { ray, budget } => Answer::FirstHit(first_hit(file, ray, budget)),
         Call::Column { ray } => Answer::Column(column(file, ray, buffer)),
+        Call::MarchingCast { ray, budget } => {
+            Answer::MarchingCast(marching_cast(file, ray, budget, buffer))
+        }
     }
 }
 
@@ -111,7 +118,7 @@ pub fn view(file: &[u8], call: ViewCall) -> ViewAnswer
 
 // ---- the calls, handed the totals by value: each lends a record of its own to the call that is lent the totals
 
-// Full cast, first hit or column, and the totals after it.
+// Full cast, first hit, column or marching cast, and the totals after it.
 pub fn perform_by_value(file: &[u8], call: Call, buffer: &mut [u8], totals: Totals) -> CountedAnswer
     ensures performed { λ r. ⌜ Performed (now (file .entry)) call (now (buffer .entry)) (r .answer) (now (buffer .exit)) ⌝ }
     ensures counted { λ r. ⌜ r .totals ≡ totalsAfter (now (file .entry)) call (length (now (buffer .entry))) totals ⌝ }
@@ -139,7 +146,7 @@ pub fn view_by_value(file: &[u8], call: ViewCall, totals: Totals) -> CountedView
 
 // ---- the calls, lent the totals
 
-// Full cast, first hit or column; the lent totals are then those after it.
+// Full cast, first hit, column or marching cast; the lent totals are then those after it.
 pub fn perform_counted(file: &[u8], call: Call, buffer: &mut [u8], totals: &mut Totals) -> Answer
     ensures performed { λ r. ⌜ Performed (now (file .entry)) call (now (buffer .entry)) r (now (buffer .exit)) ⌝ }
     ensures counted { λ _. ⌜ now (totals .exit) ≡ totalsAfter (now (file .entry)) call (length (now (buffer .entry))) (now (totals .entry)) ⌝ }

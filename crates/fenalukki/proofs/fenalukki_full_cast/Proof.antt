@@ -1,6 +1,5 @@
 use native.Mathlib.Omega.{arith}
 use borrow.Author.Needs.{needs}
-use Rattle.cast.specs.Ticks.{exponent}
 use Rattle.numbers.proofs.Numbers.{hosts-ray, cast-number-fits}
 use Rattle.fenalukki.proofs.Host.{host-cast}
 use Rattle.fenalukki.proofs.fenalukki_full_cast.Statement.{statement}
@@ -12,7 +11,7 @@ fenalukki-full-cast-spec =
     (tie.spec
     (λ c κs. search needs)
     (λ c κs. search needs)
-    (λ c κs. cast-number-fits _ _ exponent (omega arith) _ _ (c .before .before .full-cast .ensures .1 .1 .counted))
+    (λ c κs. cast-number-fits _ _ _ (omega arith) _ (c .before .before .full-cast .ensures .1 .1 .counted))
     (λ c. search needs)
     (λ c.
     let k = c .before .before .before in

@@ -1,6 +1,5 @@
 use native.Mathlib.Omega.{arith}
 use borrow.Author.Needs.{needs}
-use Rattle.cast.specs.Ticks.{exponent}
 use Rattle.numbers.proofs.Numbers.{hosts-ray, cast-number-fits}
 use Rattle.fenalukki.proofs.Host.{host-cast, cast-counted}
 use Rattle.fenalukki.proofs.fenalukki_full_cast_counted.Statement.{statement}
@@ -16,7 +15,7 @@ fenalukki-full-cast-counted-spec =
     (λ c κs. search needs)
     (λ c κs.
     let k = c .before .before .before .before .before in
-    cast-number-fits _ _ exponent (omega arith) _ _ (k .full-cast .ensures .1 .1 .counted))
+    cast-number-fits _ _ _ (omega arith) _ (k .full-cast .ensures .1 .1 .counted))
     (λ c. search needs)
     (λ c.
     let t = c .before .before .before in

@@ -18,9 +18,13 @@ module _ (which : ℕ) (ray : Ray) (budget : ℕ) where
   unfolding callOf
   first e f = rw (e, f)
 
-  bits : eqb which 0 ≡ false → eqb which 1 ≡ false → call.Column ray ≡ callOf which ray budget
+  bits : eqb which 0 ≡ false → eqb which 1 ≡ false → eqb which 2 ≡ true → call.Column ray ≡ callOf which ray budget
   unfolding callOf
-  bits e f = rw (e, f)
+  bits e f g = rw (e, f, g)
+
+  marching : eqb which 0 ≡ false → eqb which 1 ≡ false → eqb which 2 ≡ false → call.MarchingCast ray budget ≡ callOf which ray budget
+  unfolding callOf
+  marching e f g = rw (e, f, g)
 
 pub call-of-spec : {M : Type 1} → statement M
 call-of-spec =
@@ -28,4 +32,5 @@ call-of-spec =
     (tie.spec
     (λ c. full _ _ _ (eq-eqb _ _ (c .if1 .taken)))
     (λ c. first _ _ _ (ne-eqb _ _ (c .before .if1 .left)) (eq-eqb _ _ (c .if2 .taken)))
-    (λ c. bits _ _ _ (ne-eqb _ _ (c .before .if1 .left)) (ne-eqb _ _ (c .if2 .left))))
+    (λ c. bits _ _ _ (ne-eqb _ _ (c .before .before .if1 .left)) (ne-eqb _ _ (c .before .if2 .left)) (eq-eqb _ _ (c .if3 .taken)))
+    (λ c. marching _ _ _ (ne-eqb _ _ (c .before .before .if1 .left)) (ne-eqb _ _ (c .before .if2 .left)) (ne-eqb _ _ (c .if3 .left))))

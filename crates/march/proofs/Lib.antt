@@ -1,0 +1,5 @@
+pub mod Marching
+pub mod Worst
+pub mod Turns
+pub mod Demands
+pub mod Calls
