@@ -44,13 +44,13 @@ fn saved(random: &mut SplitMix64) -> Vec<u8> {
     }
 }
 
-/// A sequence of 19,000 steps, one in fifty a saved record.
+/// A sequence of 20,000 steps, one in fifty a saved record.
 pub fn assert_with_saved_records(compare: Compare, entry: Entry, seed: u64) {
     let mut random = SplitMix64::new(seed);
     let mut coverage = Coverage::default();
     let mut totals = Totals::default();
     let (mut read, mut refused) = (0, 0);
-    for _ in 0..19_000 {
+    for _ in 0..20_000 {
         let before = totals;
         if random.one_in(50) {
             let number = restore(entry, &saved(&mut random), &mut totals);
