@@ -6,3 +6,4 @@ pub mod Grazes
 pub mod Floats
 pub mod Totals
 pub mod Refuted
+pub mod Marching

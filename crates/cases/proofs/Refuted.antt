@@ -5,6 +5,8 @@
 --     constant-crossing, hit-at-start, solid-column            demand 3's distance: `sound`
 --     constant-empty, untouched, left-half-honest, later-hit   demand 2's marks: `alone`
 --     spent-at-once, spent-early, invented-probes              the count rule: `counted`
+--     cast-probes, march-probes                                the same, with the count of the halvings and of the march
+--     unlike                                                   a marching cast's marks are a full cast's: `alike`
 --     hit-probes                                               a first hit's order: `order`
 --     as-hit, as-clear, as-spent; inexact-entry                a viewer's first hit: these four; `exact`
 --     constant-refusal, asked-13-first                         the equation of a full cast's answer
@@ -14,6 +16,7 @@ use mathlib.Core.List.{List}
 use Prim.Native.Nat.{ℕ, _≤_, _<_}
 use native.Mathlib.Omega.{arith}
 use lib.ListN.{getD}
+use lib.Seq.{getD-take}
 use native.Mathlib.Decide.{decLe}
 use lib.Dec.{lit≤}
 use borrow.Author.Tests.{ne-eqb}
@@ -47,17 +50,20 @@ use Rattle.bounds.specs.Place.{placeQuestions, PlaceSays}
 use Rattle.halving.specs.declared.CastAnswer.{CastAnswer}
 use Rattle.halving.specs.declared.CastAnswer.the-variants as cast
 use Rattle.halving.specs.declared.HitAnswer.the-variants as found
-use Rattle.halving.specs.Halving.{probeCount, walk, castLookedAt}
+use Rattle.halving.specs.Halving.{probeCount, spanMarks, walk, castLookedAt}
 use Rattle.halving.specs.FirstHit.{hitLookedAt}
 use Rattle.halving.proofs.Halving.{Walked}
 use Rattle.cast.specs.declared.ColumnAnswer.the-variants as column
 use Rattle.cast.specs.Ticks.{exponent, rayState}
 use Rattle.cast.specs.Column.{markBit, columnLookedAt}
 use Rattle.cast.specs.Questions.{endsDiffer, hitQuestions, bufferQuestions}
-use Rattle.cast.specs.Calls.{rayProbes, rayWalk, castAfter, fullCast}
+use Rattle.cast.specs.Calls.{rayProbes, rayMarks, rayWalk, castAfter, fullCast}
 use Rattle.cast.specs.Demands.{Sound, Alone, AloneBits, Empty, AloneHit, Counted, CountedHit, SameOrder, CountedColumn}
-use Rattle.cast.specs.Demands.{CastDemands, HitDemands, ColumnDemands}
+use Rattle.cast.specs.Demands.{MarkDemands, CastDemands, HitDemands, ColumnDemands}
 use Rattle.cast.proofs.Demands.{ray-walked}
+use Rattle.march.specs.Marching.{nextTick, nextLength, countFrom}
+use Rattle.march.specs.Calls.{marchProbes}
+use Rattle.march.specs.Demands.{Alike, MarchDemands}
 use Rattle.view.specs.declared.ViewRay.{ViewRay}
 use Rattle.view.specs.declared.ViewAnswer.{ViewAnswer}
 use Rattle.view.specs.declared.ViewAnswer.the-variants as view
@@ -94,6 +100,14 @@ unfolding
     spanState rayState probeCount walk castLookedAt
 counts-are = (refl, refl, refl)
 
+-- the marching cast's probe count of it, and the full cast's mark of a tick
+marched-are : (marchProbes K ray exponent ≡ 49) × (getD (rayMarks K ray exponent) 600 notLookedAt ≡ insideMark)
+unfolding
+    u16 u32 i16 isPoint iso distance start count nodeAt zeroBytes recordAt recordsFrom nodesFrom nodes ceil operatorOf itemOf items joinTop step run
+    treeValue kernelOf raySquare prepare distanceAt footInside footDistance lowQ highQ qlo qhi weighted pointBounds joinBounds treeBounds stateOf
+    spanState rayState spanMarks nextTick nextLength countFrom
+marched-are = (refl, refl)
+
 -- the place 0/1, the ray's start, in tick 0
 abbrev first : Place (tick 0 1024)
 first = record { n = 0; m = 1; proper = lit≤ tt; after = lit≤ tt; before = lit≤ tt }
@@ -124,9 +138,9 @@ module _ {mark : ℕ} (sound : SoundMark (K .iso) mark (fieldAt K ray 0 1) (dema
       let f = rw (ne-eqb mark crossingMark not-crossing, ne-eqb mark insideMark not-inside) at e in
       omega (arith, f)
 
--- ---- a full cast that is complete
+-- ---- a full cast or a marching cast that is complete, whatever its count
 
-module _ {budget probes : ℕ} {after : List ℕ} (d : CastDemands K ray exponent budget (cast.Complete probes) after) where
+module _ {count most budget probes : ℕ} {after : List ℕ} (d : MarkDemands K ray 1024 count most budget (cast.Complete probes) after) where
   -- "constant "crossing", by demand 3's distance"
   pub constant-crossing : getD after 0 notLookedAt ≡ crossingMark → ⊥
   unfolding Alone Sound castLookedAt
@@ -148,23 +162,41 @@ module _ {budget probes : ℕ} {after : List ℕ} (d : CastDemands K ray exponen
   pub left-half-honest : getD after 600 notLookedAt ≡ emptyMark → ⊥
   left-half-honest e = wrong-mark 600 (lit≤ tt) (marks-are .2) e (λ f. omega (arith, f))
 
-  -- "invented probe counts, by the count rule tied to the halvings"
-  pub invented-probes : (probes ≡ 39 → ⊥) → ⊥
+  pub invented-probes : (probes ≡ count → ⊥) → ⊥
   unfolding Counted
-  invented-probes wrong = wrong (d .counted .0 ∙ counts-are .0)
+  invented-probes wrong = wrong (d .counted .0)
 
--- ---- a full cast that is spent
+-- ---- one that is spent
 
-module _ {budget t probes : ℕ} {after : List ℕ} (d : CastDemands K ray exponent budget (cast.Spent t probes) after) where
+module _ {count most budget t probes : ℕ} {after : List ℕ} (d : MarkDemands K ray 1024 count most budget (cast.Spent t probes) after) where
   -- ""spent" at once, by the rule that the budget is used up"
   pub spent-at-once : probes < budget → ⊥
   unfolding Counted
   spent-at-once h = omega (arith, d .counted .1)
 
   -- and with a budget that is enough it is not spent
-  pub spent-early : 39 ≤ budget → ⊥
+  pub spent-early : count ≤ budget → ⊥
   unfolding Counted
-  spent-early h = omega (arith, d .counted .2, counts-are .0)
+  spent-early h = omega (arith, d .counted .2)
+
+-- ---- whose count it is
+
+module _ {budget probes : ℕ} {after : List ℕ} where
+  -- "invented probe counts, by the count rule tied to the halvings"
+  pub cast-probes : CastDemands K ray exponent budget (cast.Complete probes) after → (probes ≡ 39 → ⊥) → ⊥
+  cast-probes d wrong = invented-probes d (λ e. wrong (e ∙ counts-are .0))
+
+  -- the halvings' 39, say, for a march
+  pub march-probes : MarchDemands K ray exponent budget (cast.Complete probes) after → (probes ≡ 49 → ⊥) → ⊥
+  march-probes d wrong = invented-probes (d .marks) (λ e. wrong (e ∙ marched-are .0))
+
+  -- a mark that is not the full cast's
+  pub unlike : MarchDemands K ray exponent budget (cast.Complete probes) after → getD after 600 notLookedAt ≡ emptyMark → ⊥
+  unfolding Alike
+  unlike d e =
+      let same : getD after 600 notLookedAt ≡ insideMark =
+      sym (getD-take 1024 after 600 notLookedAt (lit≤ tt)) ∙ ap (λ (l : List ℕ). getD l 600 notLookedAt) (d .alike) ∙ marched-are .1 in
+      omega (arith, same, e)
 
 -- ---- a first hit
 

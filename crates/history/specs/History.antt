@@ -3,10 +3,11 @@ use mathlib.Core.Path.{_≡_}
 use mathlib.Core.List.{List, [], _∷_}
 use Prim.Native.Nat.{ℕ, _+_}
 use lib.ListN.{length}
+use Rattle.march.specs.Calls.{marchingCast}
 use Rattle.tally.specs.declared.Totals.{Totals}
 use Rattle.tally.specs.declared.Tally.the-variants as tally
 use Rattle.tally.specs.declared.Saved.the-variants.{Refused}
-use Rattle.tally.specs.Counts.{viewTally, Total, adds}
+use Rattle.tally.specs.Counts.{castTally, viewTally, Total, adds}
 use Rattle.tally.specs.Saved.{readSaved}
 use Rattle.totals.specs.declared.Call.{Call}
 use Rattle.totals.specs.declared.Call.the-variants as call
@@ -83,11 +84,10 @@ NoneRead h = Every Unread h
 
 -- "records that no marching cast has changed": every marching cast was refused, which adds to the refusals alone
 unfoldable pub Unmarched : Event → Type 0
-Unmarched (performed file (call.MarchingCast ray budget) buffer) =
-    tallyOf (answerTo file (call.MarchingCast ray budget) (length buffer)) ≡ tally.Refused
 Unmarched (performed file (call.FullCast ray budget) buffer) = Unit {0}
 Unmarched (performed file (call.FirstHit ray budget) buffer) = Unit {0}
 Unmarched (performed file (call.Column ray) buffer) = Unit {0}
+Unmarched (performed file (call.MarchingCast ray budget) buffer) = castTally (marchingCast file ray budget (length buffer)) ≡ tally.Refused
 Unmarched (viewed file call) = Unit {0}
 Unmarched (restored saved) = Unit {0}
 
