@@ -32,8 +32,8 @@ pub fn entering_at(tick: i32) -> Scene {
     Scene::new(file_k(), Ray { a, b })
 }
 
-/// The same ray from its other end, for a tick from 299 on: it begins in the solid
-/// and leaves it in the tick given.
+/// The same ray from its other end, so that it leaves the solid in the tick given.
+/// Up to tick 724 the ray begins in the solid.
 pub fn leaving_at(tick: i32) -> Scene {
     let Scene { part, file, ray } = entering_at(1023 - tick);
     let ray = Ray { a: ray.b, b: ray.a };
@@ -72,11 +72,9 @@ pub fn listed() -> Vec<Scene> {
         crossing_everywhere(),
         cancelling_everywhere(),
     ];
-    let ticks = || (0..896).step_by(16).chain(896..1024);
-    let entering = ticks().map(entering_at);
-    let leaving = ticks().filter(|&tick| tick >= 299).map(leaving_at);
-    let worked = on_k.into_iter().chain(others);
-    worked.chain(entering).chain(leaving).collect()
+    let ticks = (0..896).step_by(16).chain(896..1024);
+    let crossed = ticks.flat_map(|tick| [entering_at(tick), leaving_at(tick)]);
+    on_k.into_iter().chain(others).chain(crossed).collect()
 }
 
 /// Parts of each of `GROUPS` up to 50 points, and parts that nearly cancel or are
