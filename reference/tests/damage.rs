@@ -5,6 +5,7 @@ use reference::cast::{bounds_at, column, first_hit, full_cast, FullCast};
 use reference::field::Ray;
 use reference::generate::{self, mutate, random_bytes, random_records, Shape, SplitMix64, STYLES};
 use reference::lister::{input, list};
+use reference::march::marching_cast;
 use reference::part::{check, FileBuilder, Part};
 use reference::view::{viewer_first_hit, ViewRay};
 
@@ -34,24 +35,36 @@ fn random_ray(random: &mut SplitMix64, part: &Part) -> Ray {
     ray
 }
 
+/// A full cast or a marching cast.
+type Cast = fn(&[u8], &Ray, u32, &mut [u8]) -> FullCast;
+
+/// What a cast answers. It writes nothing on refusal, and else marks alone.
+fn answer_of(cast: Cast, file: &[u8], ray: &Ray, budget: u32, length: usize) -> FullCast {
+    let mut buffer = vec![0xa5; length];
+    let answer = cast(file, ray, budget, &mut buffer);
+    let written = match answer {
+        FullCast::Refused(_) => 0,
+        _ => 1024,
+    };
+    assert!(buffer[..written].iter().all(|&b| b <= 3));
+    assert!(buffer[written..].iter().all(|&b| b == 0xa5));
+    answer
+}
+
 /// All calls on one file and ray; whether the full cast was refused.
 fn exercise(random: &mut SplitMix64, file: &[u8], ray: &Ray) -> bool {
     let budget = random.pick(&[0, 1, 17, 40, 100, u32::MAX]);
     let length = random.pick(&[0, 1023, 1024, 1030, 1024]);
-    let mut buffer = vec![0xa5; length];
-    let cast = full_cast(file, ray, budget, &mut buffer);
+    let cast = answer_of(full_cast, file, ray, budget, length);
+    let march = answer_of(marching_cast, file, ray, budget, length);
     let hit = first_hit(file, ray, budget);
     match cast {
         FullCast::Refused(number) => {
             assert!((1..=14).contains(&number));
-            assert!(buffer.iter().all(|&b| b == 0xa5));
             assert_eq!(hit.probes().is_some(), number == 14);
+            assert_eq!(march, cast);
         }
-        _ => {
-            assert!(buffer[..1024].iter().all(|&b| b <= 3));
-            assert!(buffer[1024..].iter().all(|&b| b == 0xa5));
-            assert!(hit.probes() <= cast.probes());
-        }
+        _ => assert!(hit.probes() <= cast.probes() && march.probes().is_some()),
     }
     let mut bits = [0xa5; 130];
     let done = column(file, ray, &mut bits);

@@ -5,9 +5,11 @@ use reference::cast::{column, first_hit, full_cast, FirstHit, FullCast};
 use reference::field::{field_at, nearest, tolerance, Ray};
 use reference::fraction::Fraction;
 use reference::generate::{self, Shape, SplitMix64, Style, OVERLAPPING, STYLES};
+use reference::march::marching_cast;
 use reference::part::{FileBuilder, Kind, Node, Part};
 
-/// One ray of one part with its marks.
+/// One ray of one part with the marks of a full cast and a marching cast: those of
+/// the one that looked at more ticks.
 struct Case {
     part: Part,
     ray: Ray,
@@ -21,16 +23,29 @@ fn fraction(num: i128, den: i128) -> Fraction {
     Fraction::new(num, den).expect("denominator not 0")
 }
 
+/// A full cast or a marching cast.
+type Cast = fn(&[u8], &Ray, u32, &mut [u8]) -> FullCast;
+
+/// How many ticks a cast looks at, and its marks.
+fn looked_at(cast: Cast, file: &[u8], ray: &Ray, budget: u32) -> (u32, [u8; 1024]) {
+    let mut marks = [9; 1024];
+    let looked_at = match cast(file, ray, budget, &mut marks) {
+        FullCast::Complete { .. } => 1024,
+        FullCast::Spent { tick, .. } => tick,
+        FullCast::Refused(number) => panic!("refused {number}"),
+    };
+    assert!(marks[looked_at as usize..].iter().all(|&m| m == 3));
+    (looked_at, marks)
+}
+
 impl Case {
     fn new(part: Part, ray: Ray, budget: u32) -> Case {
         let file = FileBuilder::from(&part).build();
-        let mut marks = [9; 1024];
-        let looked_at = match full_cast(&file, &ray, budget, &mut marks) {
-            FullCast::Complete { .. } => 1024,
-            FullCast::Spent { tick, .. } => tick,
-            FullCast::Refused(number) => panic!("refused {number}"),
-        };
-        assert!(marks[looked_at as usize..].iter().all(|&m| m == 3));
+        let casts: [Cast; 2] = [full_cast, marching_cast];
+        let mut casts = casts.map(|cast| looked_at(cast, &file, &ray, budget));
+        casts.sort_by_key(|(looked_at, _)| *looked_at);
+        let [(fewer, first), (looked_at, marks)] = casts;
+        assert_eq!(first[..fewer as usize], marks[..fewer as usize]);
         let tolerance = tolerance(&part.nodes, &ray).expect("a tree").reduced();
         Case {
             part,
@@ -155,7 +170,7 @@ fn run(seed: u64, shape: &Shape, count: usize, stride: u32) -> Seen {
         for _ in 0..count {
             let part = generate::part(&mut random, shape);
             let ray = generate::ray(&mut random, &part, style);
-            let budget = random.pick(&[2047, 2047, u32::MAX, 12, 30]);
+            let budget = random.pick(&[2052, 2052, u32::MAX, 12, 30]);
             let odd = [7 * 1024 + 1, 7 * 1024, random.between(1, 9999).into()];
             let mut case = Case::new(part, ray, budget);
             case.check_all(stride, &odd);
@@ -232,7 +247,7 @@ fn single_points_near_the_surface() {
         let part = generate::part(&mut random, &shape);
         let style = [Style::OneStep, Style::Grazing][i % 2];
         let ray = generate::ray(&mut random, &part, style);
-        let mut case = Case::new(part, ray, 2047);
+        let mut case = Case::new(part, ray, 2052);
         case.check_all(1, &[7 * 1024 + 5]);
     }
 }
@@ -244,7 +259,7 @@ fn run_drawn(seed: u64, count: usize, part: fn(&mut SplitMix64) -> Part) -> Seen
     for i in 0..count {
         let part = part(&mut random);
         let ray = generate::ray(&mut random, &part, STYLES[i % STYLES.len()]);
-        let mut case = Case::new(part, ray, 2047);
+        let mut case = Case::new(part, ray, 2052);
         case.check_all(3, &[7 * 1024 + 1]);
         seen.add(&case);
     }
@@ -280,7 +295,7 @@ fn hits_and_columns_hand_over_the_same_marks() {
         let file = FileBuilder::from(&part).build();
         let mut bits = [0; 128];
         column(&file, &ray, &mut bits);
-        let mut case = Case::new(part, ray, 2047);
+        let mut case = Case::new(part, ray, 2052);
         for t in 0..1024 {
             let bit = bits[t / 8] >> (t % 8) & 1;
             assert_eq!(bit == 1, case.marks[t] != 0);

@@ -41,8 +41,9 @@ fn bounds(builder: &FileBuilder, at: [i16; 3]) -> (i64, i64) {
 fn runs(builder: &FileBuilder, ray: &Ray) -> String {
     let file = builder.build();
     let mut host = Host::default();
-    for budget in [0, 1, 14, 30, 2047] {
+    for budget in [0, 1, 14, 30, 2052] {
         host.full_cast(&file, ray, budget, 1024);
+        host.marching_cast(&file, ray, budget, 1024);
         host.first_hit(&file, ray, budget);
         host.viewer_first_hit(&file, &in_millimetres(ray), budget);
     }
@@ -378,6 +379,8 @@ fn assert_refused(builder: &FileBuilder, number: u32) {
     assert_eq!(check(&file), Err(number));
     assert_eq!(place_bounds(&file, [0; 3]), Err(number));
     let (cast, _) = host.full_cast(&file, &AXIS, 2047, 1024);
+    assert_eq!(cast, FullCast::Refused(number));
+    let (cast, _) = host.marching_cast(&file, &AXIS, 2052, 1024);
     assert_eq!(cast, FullCast::Refused(number));
     assert_eq!(host.column(&file, &AXIS, 128), Column::Refused(number));
     let hit = host.first_hit(&file, &AXIS, 2047);

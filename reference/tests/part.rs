@@ -3,6 +3,7 @@
 use reference::cast::{bounds_at, column, first_hit, full_cast, Column, FirstHit, FullCast};
 use reference::field::Ray;
 use reference::generate::fault;
+use reference::march::marching_cast;
 use reference::part::{check, operator_record, point_record, read, FileBuilder, Kind};
 use reference::part::{OPERATORS, RECORD};
 use reference::view::{viewer_first_hit, ViewRay, ViewerHit};
@@ -26,6 +27,8 @@ fn assert_refused(file: &[u8], number: u32) {
     assert_eq!(bounds_at(file, [0, 0, 0]), Err(number));
     let mut buffer = [0xa5; 1100];
     let cast = full_cast(file, &RAY, 2047, &mut buffer);
+    assert_eq!(cast, FullCast::Refused(number));
+    let cast = marching_cast(file, &RAY, 2052, &mut buffer);
     assert_eq!(cast, FullCast::Refused(number));
     assert_eq!(column(file, &RAY, &mut buffer), Column::Refused(number));
     assert_eq!(first_hit(file, &RAY, 2047), FirstHit::Refused(number));

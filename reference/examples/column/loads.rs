@@ -1,5 +1,6 @@
-//! The parts and the rays whose columns are made.
+//! The parts and the rays whose columns are made, or full casts.
 
+use reference::cast::COLUMN_BYTES;
 use reference::field::Ray;
 use reference::generate::{lattice, strut};
 use reference::part::{read, FileBuilder, Kind, Node, Part, OPERATORS, REACH};
@@ -7,15 +8,15 @@ use std::fs;
 use std::hint::black_box;
 use std::path::Path;
 
-/// A column of a file's part on a ray: 65,536 + probes, or samples.
-pub type ColumnCall = fn(&[u8], &Ray, &mut [u8]) -> u32;
+/// A column of a file's part on a ray, or its marks: 65,536 + probes, or samples.
+pub type RayCall = fn(&[u8], &Ray, &mut [u8]) -> u32;
 /// A call on a file as a whole.
 pub type FileCall = fn(&[u8]);
 
-/// A column's bytes. They align the stack at a call, so that clearing an array
-/// there takes the same instructions in every run.
+/// The bytes that a call fills. They align the stack at a call, so that clearing
+/// an array there takes the same instructions in every run.
 #[repr(align(4096))]
-struct Aligned([u8; 128]);
+struct Aligned<const BYTES: usize>([u8; BYTES]);
 
 /// A part and the rays of its columns.
 pub struct Load {
@@ -35,17 +36,28 @@ impl Load {
         }
     }
 
-    /// The column on a ray: the probes, or samples, and the bytes.
-    pub fn column(&self, ray: &Ray, call: ColumnCall) -> (u32, [u8; 128]) {
-        let mut column = Aligned([0xa5; 128]);
-        let number = call(black_box(&self.file), ray, &mut column.0);
-        let probes = number.checked_sub(65_536).expect("an accepted ray");
-        (probes, black_box(column.0))
+    /// The part on other rays.
+    pub fn on(&self, rays: Vec<Ray>) -> Load {
+        Load {
+            name: self.name.clone(),
+            file: self.file.clone(),
+            rays,
+            ..*self
+        }
     }
 
-    /// All columns once; answers the probes, or samples.
-    pub fn columns(&self, call: ColumnCall) -> u32 {
-        self.rays.iter().map(|ray| self.column(ray, call).0).sum()
+    /// A call on a ray: the probes, or samples, and the bytes it fills.
+    pub fn fill<const BYTES: usize>(&self, ray: &Ray, call: RayCall) -> (u32, [u8; BYTES]) {
+        let mut bytes = Aligned([0xa5; BYTES]);
+        let number = call(black_box(&self.file), ray, &mut bytes.0);
+        let probes = number.checked_sub(65_536).expect("an accepted ray");
+        (probes, black_box(bytes.0))
+    }
+
+    /// A call on each ray once; answers the probes, or samples.
+    pub fn fill_all<const BYTES: usize>(&self, call: RayCall) -> u32 {
+        let probes = |ray| self.fill::<BYTES>(ray, call).0;
+        self.rays.iter().map(probes).sum()
     }
 
     /// The records of the file.
@@ -59,8 +71,8 @@ impl Load {
     }
 
     /// How many columns have a bit set.
-    pub fn solid(&self, call: ColumnCall) -> usize {
-        let has_bit = |ray: &&Ray| self.column(ray, call).1 != [0; 128];
+    pub fn solid(&self, call: RayCall) -> usize {
+        let has_bit = |ray: &&Ray| self.fill(ray, call).1 != [0; COLUMN_BYTES];
         self.rays.iter().filter(has_bit).count()
     }
 }

@@ -1,8 +1,10 @@
-//! What a column costs: the archive's, plain Rust's and that of samples; and
-//! what the archive takes to check, read and write a file. Or, by the shared
-//! libraries of an earlier archive and of this one, what a column cost before
-//! and after. Prints tables in Markdown; docs/BENCHMARKS.md explains them.
+//! What a column costs: the archive's, plain Rust's and that of samples; what
+//! the archive's two full casts cost, halving and marching; and what the archive
+//! takes to check, read and write a file. Or, by the shared libraries of an
+//! earlier archive and of this one, what a column cost before and after. Prints
+//! tables in Markdown; docs/BENCHMARKS.md explains them.
 
+mod casts;
 #[path = "../../tests/common/entries.rs"]
 mod entries;
 mod files;
@@ -12,22 +14,23 @@ mod measure;
 mod plain;
 mod samples;
 
-use loads::{ColumnCall, Load};
+use loads::{Load, RayCall};
 use measure::{instructions, instructions_by};
+use reference::cast::COLUMN_BYTES;
 use std::env;
 
 /// The calls, by the names that the profiler knows them by.
-const CALLS: [(&str, ColumnCall); 3] = [ARCHIVE, PLAIN, SAMPLED];
-const ARCHIVE: (&str, ColumnCall) = ("fenalukki_column", entries::column);
-const PLAIN: (&str, ColumnCall) = ("plain_column", plain::plain_column);
-const SAMPLED: (&str, ColumnCall) = ("sampled_column", samples::sampled_column);
+const CALLS: [(&str, RayCall); 3] = [ARCHIVE, PLAIN, SAMPLED];
+const ARCHIVE: (&str, RayCall) = ("fenalukki_column", entries::column);
+const PLAIN: (&str, RayCall) = ("plain_column", plain::plain_column);
+const SAMPLED: (&str, RayCall) = ("sampled_column", samples::sampled_column);
 
 /// The calls of an earlier archive and of this one, by shared libraries.
-const BEFORE_AFTER: [ColumnCall; 2] = [libraries::column::<0>, libraries::column::<1>];
+const BEFORE_AFTER: [RayCall; 2] = [libraries::column::<0>, libraries::column::<1>];
 
 /// The mean probes of a column.
 fn probes(load: &Load) -> f64 {
-    f64::from(load.columns(ARCHIVE.1)) / load.rays.len() as f64
+    f64::from(load.fill_all::<COLUMN_BYTES>(ARCHIVE.1)) / load.rays.len() as f64
 }
 
 /// A heading, and the head of a table.
@@ -46,7 +49,7 @@ fn print_number(number: Option<f64>, digits: usize) {
 
 fn print_part(load: &Load) {
     let counted = CALLS.map(|(name, _)| instructions(load, name));
-    let times = measure::times(load, CALLS.map(|(_, call)| call));
+    let times = measure::times::<COLUMN_BYTES, 3>(load, CALLS.map(|(_, call)| call));
     let [archive, plain, sampled] = counted;
     print!("| {} | {} | {:.1} |", load.name, load.points, probes(load));
     counted.iter().for_each(|&number| print_number(number, 0));
@@ -159,7 +162,7 @@ fn print_far_points() {
 /// How many columns a load has. Panics unless both archives answer the same.
 fn compare(load: &Load) -> usize {
     for ray in &load.rays {
-        let [before, after] = BEFORE_AFTER.map(|call| load.column(ray, call));
+        let [before, after] = BEFORE_AFTER.map(|call| load.fill::<COLUMN_BYTES>(ray, call));
         assert_eq!(before, after, "{} {ray:?}", load.name);
     }
     load.rays.len()
@@ -167,7 +170,7 @@ fn compare(load: &Load) -> usize {
 
 fn print_change(load: &Load, paths: [&str; 2]) {
     let counted = paths.map(|path| instructions_by(load, ARCHIVE.0, &[path]));
-    let times = measure::times(load, BEFORE_AFTER);
+    let times = measure::times::<COLUMN_BYTES, 2>(load, BEFORE_AFTER);
     print!("| {} | {} | {:.1} |", load.name, load.points, probes(load));
     counted.iter().for_each(|&number| print_number(number, 0));
     print_number(counted[1].zip(counted[0]).map(|(x, y)| x / y), 2);
@@ -202,7 +205,7 @@ fn make(load: &Load, name: &str) {
         return;
     }
     let call = CALLS.iter().find(|(known, _)| *known == name);
-    load.columns(call.expect("the name of a call").1);
+    load.fill_all::<COLUMN_BYTES>(call.expect("the name of a call").1);
 }
 
 /// Says so where no instructions are counted.
@@ -215,7 +218,7 @@ fn warn() {
 /// Makes the columns of a load by one library alone.
 fn make_by(load: &Load, library: &str) {
     libraries::open(0, library);
-    load.columns(libraries::column::<0>);
+    load.fill_all::<COLUMN_BYTES>(libraries::column::<0>);
 }
 
 fn print_tables() {
@@ -226,6 +229,7 @@ fn print_tables() {
     print_growth("Each operator", &loads::operators());
     print_far_points();
     print_struts();
+    casts::print();
     print_files();
 }
 
@@ -235,6 +239,7 @@ fn main() {
     match words[..] {
         ["--before", before, after] => print_changes([before, after]),
         [load, name] => make(&loads::named(load), name),
+        [load, name, "--rays", rays] => casts::make(load, name, rays),
         [load, _, library] => make_by(&loads::named(load), library),
         _ => print_tables(),
     }

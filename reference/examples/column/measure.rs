@@ -1,6 +1,6 @@
-//! What the columns of a load cost: instructions, and times of this run.
+//! What the calls of a load cost: instructions, and times of this run.
 
-use crate::loads::{ColumnCall, Load};
+use crate::loads::{Load, RayCall};
 use std::env;
 use std::process::Command;
 use std::time::Instant;
@@ -16,7 +16,7 @@ pub fn counts() -> bool {
     Command::new("valgrind").arg("--version").output().is_ok()
 }
 
-/// The instructions in the call of this name for a column of a load, by this
+/// The instructions in the call of this name for a ray of a load, by this
 /// program run again under callgrind. `None` if valgrind does not run.
 pub fn instructions(load: &Load, call: &str) -> Option<f64> {
     instructions_by(load, call, &[])
@@ -40,22 +40,22 @@ pub fn instructions_by(load: &Load, call: &str, arguments: &[&str]) -> Option<f6
     Some(all / load.rays.len() as f64)
 }
 
-/// Makes each column of a load once and keeps its time where it is the
+/// Makes the call on each ray of a load once and keeps its time where it is the
 /// shortest.
-fn shorten(shortest: &mut [f64], load: &Load, call: ColumnCall) {
+fn shorten<const BYTES: usize>(shortest: &mut [f64], load: &Load, call: RayCall) {
     for (seconds, ray) in shortest.iter_mut().zip(&load.rays) {
         let start = Instant::now();
-        load.column(ray, call);
+        load.fill::<BYTES>(ray, call);
         *seconds = seconds.min(start.elapsed().as_secs_f64());
     }
 }
 
-/// The time of each call for all columns of a load: the shortest of each
-/// column, added up. The calls take turns.
-pub fn times<const N: usize>(load: &Load, calls: [ColumnCall; N]) -> [f64; N] {
+/// The time of each of `N` calls, which fill so many bytes, on all rays of a load:
+/// the shortest of each ray, added up. The calls take turns.
+pub fn times<const BYTES: usize, const N: usize>(load: &Load, calls: [RayCall; N]) -> [f64; N] {
     let mut shortest = calls.map(|_| vec![f64::INFINITY; load.rays.len()]);
     for turn in 0..RUNS * N {
-        shorten(&mut shortest[turn % N], load, calls[turn % N]);
+        shorten::<BYTES>(&mut shortest[turn % N], load, calls[turn % N]);
     }
     shortest.map(|seconds| seconds.iter().sum())
 }
