@@ -50,8 +50,8 @@ module _ (solid : Solid) (ray : Ray) (T : ℕ) where
   AloneHit (found.Spent tick probes) = (tick < T) × Empty tick
 
 -- "a full cast is spent exactly when the probe count of the whole ray is more than its budget; the probes it reports are the smaller of the two", and
--- there is a budget that "is always enough": for a ray of T ticks whose probe count is `count`, and that never takes more than `most` probes. Spent, a
--- cast leaves ticks not looked at. A refusal is 1 to 14.
+-- there is a budget that "is always enough": for a ray of T ticks that takes `count` probes, of at most `most`. Spent, a cast leaves ticks not looked
+-- at. A refusal is 1 to 14.
 unfoldable pub Counted : (T count most budget : ℕ) → CastAnswer → Type 0
 Counted T count most budget (cast.Refused number) = (1 ≤ number) × (number ≤ 14)
 Counted T count most budget (cast.Complete probes) = (probes ≡ count) × (count ≤ budget) × (count ≤ most)
