@@ -1,7 +1,8 @@
 //! The calls: bounds at a place, full cast, first hit and column, with marks,
-//! probes, the halving search and the budget.
+//! probes, the halving search and the budget. The marching cast, in
+//! [`crate::march`], shares the questions, the marks and the buffer's handling.
 //!
-//! The search asks a [`SpanBounds`] for the bounds of spans. `full_cast_by`,
+//! A search asks a [`SpanBounds`] for the bounds of spans. `full_cast_by`,
 //! `first_hit_by` and `column_by` are told which: `ExactField`, the fractions,
 //! or `TickField`, the quick one, which the calls without `_by` take.
 
@@ -221,7 +222,7 @@ pub fn probe_count(part: &Part, ray: &Ray, first: u32, after: u32) -> Option<u32
 }
 
 /// How a search ended.
-enum End {
+pub(crate) enum End {
     Complete,
     Stopped,
     Spent(u32),
@@ -268,23 +269,30 @@ pub fn full_cast_by<F: SpanBounds>(
     budget: u32,
     buffer: &mut [u8],
 ) -> FullCast {
-    try_full_cast::<F>(file, ray, budget, buffer).unwrap_or_else(FullCast::Refused)
+    let cast = marks_by(file, ray, buffer, |part, settle| {
+        search::<F>(part, ray, Some(budget), |first, after, mark| {
+            settle(first, after, mark);
+            true
+        })
+    });
+    cast.unwrap_or_else(FullCast::Refused)
 }
 
-fn try_full_cast<F: SpanBounds>(
+/// A full cast by a search, which is handed the part and what gets each settled
+/// span, and answers its end and the probes made.
+pub(crate) fn marks_by(
     file: &[u8],
     ray: &Ray,
-    budget: u32,
     buffer: &mut [u8],
+    search: impl FnOnce(&Part, &mut dyn FnMut(u32, u32, Mark)) -> Option<(End, u32)>,
 ) -> Result<FullCast, u32> {
     let part = accept(file, ray)?;
     let marks = room(buffer, TICKS as usize)?;
     let mut work = [NOT_LOOKED_AT; TICKS as usize];
-    let settle = |first: u32, after: u32, mark: Mark| {
+    let mut settle = |first: u32, after: u32, mark: Mark| {
         work[first as usize..after as usize].fill(mark.byte());
-        true
     };
-    let (end, probes) = search::<F>(&part, ray, Some(budget), settle).ok_or(11u32)?;
+    let (end, probes) = search(&part, &mut settle).ok_or(11u32)?;
     marks.copy_from_slice(&work);
     Ok(match end {
         End::Spent(tick) => FullCast::Spent { probes, tick },

@@ -8,6 +8,7 @@
 //! - [`field`]: the exact field, bounds of spans and places, the tolerance.
 //! - [`quick`]: bounds of spans with whole numbers at their ends.
 //! - [`cast`]: bounds at a place, full cast, first hit and column.
+//! - [`march`]: the marching full cast.
 //! - [`view`]: the viewer's first hit.
 //! - [`lister`]: the ray lister's text.
 //! - [`totals`]: the running totals, and saved records of them.
@@ -22,6 +23,7 @@ pub mod field;
 pub mod fraction;
 pub mod generate;
 pub mod lister;
+pub mod march;
 pub mod part;
 pub mod quick;
 pub mod totals;

@@ -6,7 +6,7 @@ mod host;
 #[path = "common/worked.rs"]
 mod worked;
 
-use host::{check, column, entries, first_hit, full_cast, place_bounds};
+use host::{check, column, entries, first_hit, full_cast, marching_cast, place_bounds};
 use reference::cast::{Column, FirstHit, FullCast, Mark};
 use reference::field::{Bounds, Ray};
 use reference::generate::fault;
@@ -26,6 +26,13 @@ fn marks(file: &[u8], ray: &Ray) -> [u8; 1024] {
     marks
 }
 
+/// Those of an unlimited marching cast.
+fn marched(file: &[u8], ray: &Ray) -> [u8; 1024] {
+    let mut marks = [9; 1024];
+    entries::marching_cast(file, ray, 2052, &mut marks);
+    marks
+}
+
 /// The check of a file and the bounds at a place refuse with the number, and
 /// the casting calls too.
 fn assert_file_refused(file: &[u8], number: u32) {
@@ -36,10 +43,12 @@ fn assert_file_refused(file: &[u8], number: u32) {
     assert_refused(file, &AXIS, number);
 }
 
-/// The three calls on a ray refuse with the number.
+/// The four calls on a ray refuse with the number.
 fn assert_refused(file: &[u8], ray: &Ray, number: u32) {
     for room in [0, 127, 128, 1023, 1024, 2000] {
         let cast = full_cast(file, ray, 2047, room);
+        assert_eq!(cast, FullCast::Refused(number));
+        let cast = marching_cast(file, ray, 2052, room);
         assert_eq!(cast, FullCast::Refused(number));
         assert_eq!(column(file, ray, room), Column::Refused(number));
     }
@@ -52,6 +61,8 @@ fn the_axis_ray() {
     let cast = full_cast(&k, &AXIS, 2047, 1024);
     assert_eq!(cast.number(), 65_536 + 39);
     assert_eq!(column(&k, &AXIS, 128).number(), 65_536 + 39);
+    let cast = marching_cast(&k, &AXIS, 2052, 1024);
+    assert_eq!(cast.number(), 65_536 + 49);
     let hit = FirstHit::Hit {
         tick: 330,
         mark: Mark::Crossing,
@@ -65,9 +76,11 @@ fn the_axis_ray() {
 #[test]
 fn every_budget_of_the_axis_ray() {
     let k = file_k();
-    for budget in 0..=41 {
+    for budget in 0..=52 {
         let spent = matches!(full_cast(&k, &AXIS, budget, 1024), FullCast::Spent { .. });
         assert_eq!(spent, budget < 39);
+        let cast = marching_cast(&k, &AXIS, budget, 1024);
+        assert_eq!(matches!(cast, FullCast::Spent { .. }), budget < 49);
         let spent = matches!(first_hit(&k, &AXIS, budget), FirstHit::Spent { .. });
         assert_eq!(spent, budget < 15);
     }
@@ -84,9 +97,12 @@ fn every_budget_of_the_axis_ray() {
 fn y_512_is_all_empty() {
     let k = file_k();
     assert_eq!(full_cast(&k, &at_y(512), 1, 1024).number(), 65_537);
+    assert_eq!(marching_cast(&k, &at_y(512), 5, 1024).number(), 65_541);
+    assert_eq!(marching_cast(&k, &at_y(512), 4, 1024).number(), 131_076);
     assert_eq!(first_hit(&k, &at_y(512), 1).number(), (3 << 32) + 1);
     assert_eq!(column(&k, &at_y(512), 128).number(), 65_537);
     assert_eq!(marks(&k, &at_y(512)), [0; 1024]);
+    assert_eq!(marched(&k, &at_y(512)), [0; 1024]);
 }
 
 #[test]
@@ -97,6 +113,7 @@ fn y_362_crosses_inside_509_and_514() {
     let mut expected = [0; 1024];
     expected[509..515].copy_from_slice(&[1, 2, 2, 2, 2, 1]);
     assert_eq!(marks(&k, &at_y(362)), expected);
+    assert_eq!(marched(&k, &at_y(362)), expected);
 }
 
 #[test]
@@ -106,6 +123,7 @@ fn weights_4_and_minus_4_cancel() {
     let cast = full_cast(&file, &AXIS, 2047, 1024);
     assert!(matches!(cast, FullCast::Complete { probes } if probes > 1));
     assert_eq!(marks(&file, &AXIS), [0; 1024]);
+    assert_eq!(marched(&file, &AXIS), [0; 1024]);
     assert_eq!(column(&file, &AXIS, 128).probes(), cast.probes());
     assert!(matches!(
         first_hit(&file, &AXIS, 2047),
@@ -205,6 +223,7 @@ fn refused_rays() {
             b: [-value; 3],
         };
         assert!(full_cast(&k, &ray, 2047, 1024).probes().is_some());
+        assert!(marching_cast(&k, &ray, 2052, 1024).probes().is_some());
     }
 }
 
@@ -213,12 +232,15 @@ fn refused_buffers() {
     let k = file_k();
     for room in [0, 1, 128, 1022, 1023] {
         assert_eq!(full_cast(&k, &AXIS, 2047, room), FullCast::Refused(14));
+        let cast = marching_cast(&k, &AXIS, 2052, room);
+        assert_eq!(cast, FullCast::Refused(14));
     }
     for room in [0, 1, 126, 127] {
         assert_eq!(column(&k, &AXIS, room), Column::Refused(14));
     }
     for room in [1024, 1025, 5000] {
         assert_eq!(full_cast(&k, &AXIS, 2047, room).probes(), Some(39));
+        assert_eq!(marching_cast(&k, &AXIS, 2052, room).probes(), Some(49));
         assert_eq!(column(&k, &AXIS, room).probes(), Some(39));
     }
 }
@@ -256,13 +278,17 @@ fn a_stack_of_64_kib() {
         let column = entries::column(&file, &ray, &mut bits);
         let counted_column = entries::column_counted(&file, &ray, &mut bits, &mut totals);
         assert_eq!([counted, column, counted_column], [cast; 3]);
+        let march = entries::marching_cast(&file, &ray, 2052, &mut marks);
+        assert!(march > 65_536 + 100 && march != cast);
+        let counted = entries::marching_cast_counted(&file, &ray, 2052, &mut marks, &mut totals);
+        assert_eq!(counted, march);
         let hit = entries::first_hit(&file, &ray, 2047);
         assert!(hit > 65_536);
         let counted = entries::first_hit_counted(&file, &ray, 2047, &mut totals);
         let viewer = entries::viewer_first_hit(&file, &view, 2047);
         let counted_viewer = entries::viewer_first_hit_counted(&file, &view, 2047, &mut totals);
         assert_eq!([counted, viewer, counted_viewer], [hit; 3]);
-        assert_eq!((totals[0], totals[2]), (4, 0));
+        assert_eq!((totals[0], totals[2]), (5, 0));
         assert_eq!(entries::restore_totals(&[0; 12], &mut totals), 65_536);
         assert_eq!(totals, [0; 3]);
         assert_eq!(entries::check(&file) >> 16, 65_536 + 511);
@@ -277,12 +303,17 @@ fn a_stack_of_64_kib() {
 fn several_threads_on_one_file() {
     let (file, ray) = most_records();
     let expected = marks(&file, &ray);
+    let cast_both = || {
+        assert_eq!(marks(&file, &ray), expected);
+        assert_eq!(marched(&file, &ray), expected);
+    };
     thread::scope(|scope| {
         for _ in 0..4 {
-            scope.spawn(|| (0..10).for_each(|_| assert_eq!(marks(&file, &ray), expected)));
+            scope.spawn(|| (0..10).for_each(|_| cast_both()));
         }
     });
     full_cast(&file, &ray, 2047, 1024);
+    marching_cast(&file, &ray, 2052, 1024);
 }
 
 /// The program `examples/column.c`, compiled against the header without a

@@ -79,8 +79,8 @@ extern "C" {
 /// What k counts in a number.
 const CASE: u64 = 4_294_967_296;
 
-/// The number of a full cast if `which` is 0, of a first hit if it is 1, else
-/// of a column.
+/// The number of a full cast if `which` is 0, of a first hit if it is 1, of a
+/// column if it is 2, else of a marching cast.
 fn call(
     file: &[u8],
     which: u32,
@@ -119,8 +119,8 @@ fn restore(saved: &[u8], totals: &mut [u64; 3]) -> u32 {
     unsafe { testhost_restore(saved.as_ptr(), saved.len(), sums) }
 }
 
-/// Compares a full cast, first hit or column; its number, and its probes or `None`
-/// if refused.
+/// Compares a call on a ray in steps; its number, and its probes or `None` if
+/// refused.
 fn compare_call(
     file: &[u8],
     which: u32,
@@ -180,7 +180,7 @@ fn the_record_and_the_place_are_the_references() {
     let mut random = SplitMix64::new(141);
     let mut coverage = Coverage::default();
     let mut views = [0; 5];
-    for _ in 0..16_000 {
+    for _ in 0..20_000 {
         let request = Request::new(&mut random);
         let before = generate::totals(&mut random);
         let mut totals = before;

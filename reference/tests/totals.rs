@@ -2,6 +2,7 @@
 
 use reference::cast::{column, first_hit, full_cast};
 use reference::field::Ray;
+use reference::march::marching_cast;
 use reference::part::FileBuilder;
 use reference::totals::{Totals, CEILING, SAVED_BYTES};
 use reference::view::{viewer_first_hit, ViewRay};
@@ -89,6 +90,9 @@ fn counts_each_call() {
         .after(full_cast(&k, &ray, 2047, &mut buffer).probes())
         .after(full_cast(&k, &ray, 7, &mut buffer).probes())
         .after(full_cast(&k, &ray, 7, &mut []).probes())
+        .after(marching_cast(&k, &ray, 2052, &mut buffer).probes())
+        .after(marching_cast(&k, &ray, 8, &mut buffer).probes())
+        .after(marching_cast(&k, &ray, 8, &mut []).probes())
         .after(first_hit(&k, &ray, 2047).probes())
         .after(first_hit(&[], &ray, 2047).probes())
         .after(column(&k, &ray, &mut buffer).probes())
@@ -96,9 +100,9 @@ fn counts_each_call() {
         .after(viewer_first_hit(&k, view, 2047).probes())
         .after(viewer_first_hit(&[], view, 2047).probes());
     let expected = Totals {
-        casts: 5,
-        probes: 39 + 7 + 15 + 39 + 15,
-        refusals: 4,
+        casts: 7,
+        probes: 39 + 7 + 49 + 8 + 15 + 39 + 15,
+        refusals: 5,
     };
     assert_eq!(totals, expected);
 }

@@ -17,7 +17,7 @@ use reference::totals::Totals;
 use reference::view::{viewer_first_hit, ViewRay, ViewerHit};
 
 /// The archive's number of a counted full cast if `which` is 0, of a first hit
-/// if it is 1, else of a column.
+/// if it is 1, of a column if it is 2, else of a marching cast.
 fn count(
     file: &[u8],
     which: u32,
@@ -29,7 +29,8 @@ fn count(
     match which {
         0 => entries::full_cast_counted(file, ray, budget, buffer, totals).into(),
         1 => entries::first_hit_counted(file, ray, budget, totals),
-        _ => entries::column_counted(file, ray, buffer, totals).into(),
+        2 => entries::column_counted(file, ray, buffer, totals).into(),
+        _ => entries::marching_cast_counted(file, ray, budget, buffer, totals).into(),
     }
 }
 
@@ -38,13 +39,13 @@ fn plain(file: &[u8], which: u32, ray: &Ray, budget: u32, buffer: &mut [u8]) -> 
     match which {
         0 => entries::full_cast(file, ray, budget, buffer).into(),
         1 => entries::first_hit(file, ray, budget),
-        _ => entries::column(file, ray, buffer).into(),
+        2 => entries::column(file, ray, buffer).into(),
+        _ => entries::marching_cast(file, ray, budget, buffer).into(),
     }
 }
 
-/// What the archive alone answers to a counted full cast, first hit or column:
-/// the number, the bytes it leaves, those of the guards included, and the
-/// totals.
+/// What the archive alone answers to a counted call on a ray in steps: the
+/// number, the bytes it leaves, those of the guards included, and the totals.
 #[allow(dead_code)]
 pub fn called(
     file: &[u8],
@@ -68,7 +69,7 @@ pub fn viewed(file: &[u8], ray: &ViewRay, budget: u32, totals: Totals) -> (u64, 
     })
 }
 
-/// A counted full cast, first hit or column; its probes, or `None` if refused.
+/// A counted call on a ray in steps; its probes, or `None` if refused.
 #[allow(dead_code)]
 pub fn call(
     file: &[u8],

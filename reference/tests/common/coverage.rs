@@ -1,15 +1,15 @@
 //! What counted calls covered.
 
-use crate::calls::Request;
+use crate::calls::{Request, KINDS};
 use reference::totals::{Totals, CEILING};
 
 /// The first number that 32 bits do not hold.
 pub const PAST_32_BITS: u64 = 1 << 32;
 
-/// Counts by call (full cast, first hit, column, viewer's), by the total that it
-/// adds to (casts, probes, refusals) and by `class`.
+/// Counts by kind of call, by the total that it adds to (casts, probes, refusals)
+/// and by `class`.
 #[derive(Debug, Default)]
-pub struct Coverage([[[u32; 5]; 3]; 4]);
+pub struct Coverage([[[u32; 5]; 3]; KINDS]);
 
 impl Coverage {
     /// A call from these totals: its probes, or `None` if refused.

@@ -39,6 +39,20 @@ extern "C" {
         marks_len: usize,
     ) -> u32;
 
+    fn fenalukki_marching_cast(
+        file: *const u8,
+        file_len: usize,
+        ax: i32,
+        ay: i32,
+        az: i32,
+        bx: i32,
+        by: i32,
+        bz: i32,
+        budget: u32,
+        marks: *mut u8,
+        marks_len: usize,
+    ) -> u32;
+
     fn fenalukki_first_hit(
         file: *const u8,
         file_len: usize,
@@ -77,6 +91,21 @@ extern "C" {
     ) -> u64;
 
     fn fenalukki_full_cast_counted(
+        file: *const u8,
+        file_len: usize,
+        ax: i32,
+        ay: i32,
+        az: i32,
+        bx: i32,
+        by: i32,
+        bz: i32,
+        budget: u32,
+        marks: *mut u8,
+        marks_len: usize,
+        totals: *mut u64,
+    ) -> u32;
+
+    fn fenalukki_marching_cast_counted(
         file: *const u8,
         file_len: usize,
         ax: i32,
@@ -186,6 +215,15 @@ pub fn full_cast(file: &[u8], ray: &Ray, budget: u32, marks: &mut [u8]) -> u32 {
     unsafe { fenalukki_full_cast(at, len, ax, ay, az, bx, by, bz, budget, to, room) }
 }
 
+/// The number of a marching cast.
+pub fn marching_cast(file: &[u8], ray: &Ray, budget: u32, marks: &mut [u8]) -> u32 {
+    let ([ax, ay, az], [bx, by, bz]) = (ray.a, ray.b);
+    let (at, len) = (start(file), file.len());
+    let (to, room) = (start_mut(marks), marks.len());
+    // SAFETY: both pointers are valid for their lengths and do not overlap.
+    unsafe { fenalukki_marching_cast(at, len, ax, ay, az, bx, by, bz, budget, to, room) }
+}
+
 /// The number of a first hit.
 pub fn first_hit(file: &[u8], ray: &Ray, budget: u32) -> u64 {
     let ([ax, ay, az], [bx, by, bz]) = (ray.a, ray.b);
@@ -224,6 +262,23 @@ pub fn full_cast_counted(
     let (to, room) = (start_mut(marks), marks.len());
     // SAFETY: all pointers are valid for their lengths and do not overlap.
     unsafe { fenalukki_full_cast_counted(at, len, ax, ay, az, bx, by, bz, budget, to, room, sums) }
+}
+
+/// The number of a marching cast that counts.
+pub fn marching_cast_counted(
+    file: &[u8],
+    ray: &Ray,
+    budget: u32,
+    marks: &mut [u8],
+    totals: &mut [u64; 3],
+) -> u32 {
+    let ([ax, ay, az], [bx, by, bz]) = (ray.a, ray.b);
+    let (at, len, sums) = (start(file), file.len(), totals.as_mut_ptr());
+    let (to, room) = (start_mut(marks), marks.len());
+    // SAFETY: all pointers are valid for their lengths and do not overlap.
+    unsafe {
+        fenalukki_marching_cast_counted(at, len, ax, ay, az, bx, by, bz, budget, to, room, sums)
+    }
 }
 
 /// The number of a first hit that counts.

@@ -3,13 +3,14 @@
 
 use reference::cast;
 use reference::field::Ray;
+use reference::march;
 use reference::part;
 use reference::totals::Totals;
 use reference::view::{viewer_first_hit, ViewRay, ViewerHit};
 use reference::write;
 
 /// The reference's number and probes of a full cast if `which` is 0, of a first
-/// hit if it is 1, else of a column.
+/// hit if it is 1, of a column if it is 2, else of a marching cast.
 #[allow(dead_code)]
 pub fn answered(
     file: &[u8],
@@ -27,8 +28,12 @@ pub fn answered(
             let answer = cast::first_hit(file, ray, budget);
             (answer.number(), answer.probes())
         }
-        _ => {
+        2 => {
             let answer = cast::column(file, ray, buffer);
+            (u64::from(answer.number()), answer.probes())
+        }
+        _ => {
+            let answer = march::marching_cast(file, ray, budget, buffer);
             (u64::from(answer.number()), answer.probes())
         }
     }

@@ -11,6 +11,7 @@ mod guards;
 use guards::in_guards;
 use reference::cast::{self, Column, FirstHit, FullCast};
 use reference::field::{Bounds, Ray};
+use reference::march;
 use reference::part;
 
 /// The numbers of the bounds before a call, and around them.
@@ -57,6 +58,18 @@ pub fn full_cast(file: &[u8], ray: &Ray, budget: u32, room: usize) -> FullCast {
     let copy = file.to_vec();
     let (number, bytes) = in_guards(room, |b| entries::full_cast(&copy, ray, budget, b));
     let (answer, expected) = in_guards(room, |b| cast::full_cast(file, ray, budget, b));
+    assert_eq!(number, answer.number(), "{ray:?} {budget} {room} {file:?}");
+    assert_eq!(bytes, expected, "{ray:?} {budget} {room} {file:?}");
+    assert_eq!(copy, file);
+    answer
+}
+
+/// A marching cast.
+#[allow(dead_code)]
+pub fn marching_cast(file: &[u8], ray: &Ray, budget: u32, room: usize) -> FullCast {
+    let copy = file.to_vec();
+    let (number, bytes) = in_guards(room, |b| entries::marching_cast(&copy, ray, budget, b));
+    let (answer, expected) = in_guards(room, |b| march::marching_cast(file, ray, budget, b));
     assert_eq!(number, answer.number(), "{ray:?} {budget} {room} {file:?}");
     assert_eq!(bytes, expected, "{ray:?} {budget} {room} {file:?}");
     assert_eq!(copy, file);

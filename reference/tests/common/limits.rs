@@ -76,7 +76,7 @@ pub fn additions() -> impl Iterator<Item = Addition> {
     calls.flat_map(additions_of)
 }
 
-/// Every listed call. By each of the four, each total passes 2^32, reaches the
+/// Every listed call. By each of the five, each total passes 2^32, reaches the
 /// ceiling and stays there.
 pub fn assert_each_limit(compare: Compare) {
     let mut coverage = Coverage::default();
@@ -88,6 +88,6 @@ pub fn assert_each_limit(compare: Compare) {
         coverage.count(&addition.request, addition.before, addition.probes);
         count += 1;
     }
-    assert_eq!(count, 5_344);
+    assert_eq!(count, 6_744);
     coverage.assert_populated([96, 6, 54, 6, 6]);
 }

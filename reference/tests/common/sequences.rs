@@ -11,7 +11,7 @@ use reference::totals::{Totals, CEILING};
 /// Zero; and each total, and then all three, at 2^32 and the ceiling and below
 /// them.
 pub fn starts() -> Vec<Totals> {
-    let below = (0..=30).chain([40, 2_000]);
+    let below = (0..=38).chain([45, 2_000]);
     let limits = [PAST_32_BITS, CEILING].into_iter();
     let numbers = limits.flat_map(|limit| below.clone().map(move |n| limit - n));
     let starts = numbers.flat_map(starts_at);
@@ -44,13 +44,13 @@ fn saved(random: &mut SplitMix64) -> Vec<u8> {
     }
 }
 
-/// A sequence of 15,000 steps, one in fifty a saved record.
+/// A sequence of 19,000 steps, one in fifty a saved record.
 pub fn assert_with_saved_records(compare: Compare, entry: Entry, seed: u64) {
     let mut random = SplitMix64::new(seed);
     let mut coverage = Coverage::default();
     let mut totals = Totals::default();
     let (mut read, mut refused) = (0, 0);
-    for _ in 0..15_000 {
+    for _ in 0..19_000 {
         let before = totals;
         if random.one_in(50) {
             let number = restore(entry, &saved(&mut random), &mut totals);

@@ -8,6 +8,7 @@ use crate::guards::in_guards;
 use reference::cast::{bounds_at, column_by, first_hit_by, full_cast_by};
 use reference::cast::{Column, FirstHit, FullCast};
 use reference::field::{Bounds, ExactField, Ray};
+use reference::march::marching_cast_by;
 use reference::part;
 use reference::totals::Totals;
 use reference::view::{viewer_first_hit_by, ViewRay, ViewerHit};
@@ -31,7 +32,7 @@ impl Host {
         assert_eq!(self.lent, <[u64; 3]>::from(self.totals));
     }
 
-    /// A full cast, and the marks it leaves; no byte is one beforehand.
+    /// A full cast, and the marks it leaves.
     pub fn full_cast(
         &mut self,
         file: &[u8],
@@ -39,19 +40,56 @@ impl Host {
         budget: u32,
         room: usize,
     ) -> (FullCast, Vec<u8>) {
-        let (answer, bytes) = in_guards(room, |b| full_cast_by::<ExactField>(file, ray, budget, b));
-        let expected = (answer.number(), bytes);
+        let expected = in_guards(room, |b| full_cast_by::<ExactField>(file, ray, budget, b));
         let copy = file.to_vec();
         let plain = in_guards(room, |b| entries::full_cast(&copy, ray, budget, b));
         let totals = &mut self.lent;
         let counted = in_guards(room, |b| {
             entries::full_cast_counted(&copy, ray, budget, b, totals)
         });
-        assert_eq!(plain, expected, "{ray:?} {budget} {file:?}");
-        assert_eq!(counted, expected, "{ray:?} {budget} {file:?}");
         assert_eq!(copy, file);
+        let request = || format!("{ray:?} {budget} {file:?}");
+        self.marks(expected, [plain, counted], &request)
+    }
+
+    /// A marching cast, and the marks it leaves.
+    #[allow(dead_code)]
+    pub fn marching_cast(
+        &mut self,
+        file: &[u8],
+        ray: &Ray,
+        budget: u32,
+        room: usize,
+    ) -> (FullCast, Vec<u8>) {
+        let expected = in_guards(room, |b| {
+            marching_cast_by::<ExactField>(file, ray, budget, b)
+        });
+        let copy = file.to_vec();
+        let plain = in_guards(room, |b| entries::marching_cast(&copy, ray, budget, b));
+        let totals = &mut self.lent;
+        let counted = in_guards(room, |b| {
+            entries::marching_cast_counted(&copy, ray, budget, b, totals)
+        });
+        assert_eq!(copy, file);
+        let request = || format!("{ray:?} {budget} {file:?}");
+        self.marks(expected, [plain, counted], &request)
+    }
+
+    /// Compares what the archive answers, plain and counted, with the expected
+    /// answer and bytes; the answer, and the marks among the bytes. No byte is one
+    /// beforehand.
+    fn marks(
+        &mut self,
+        (answer, bytes): (FullCast, Vec<u8>),
+        found: [(u32, Vec<u8>); 2],
+        request: &dyn Fn() -> String,
+    ) -> (FullCast, Vec<u8>) {
+        for (number, left) in found {
+            assert_eq!(number, answer.number(), "{}", request());
+            assert_eq!(left, bytes, "{}", request());
+        }
         self.count(answer.probes());
-        let marks = expected.1.into_iter().filter(|&byte| byte < 4);
+        let marks = bytes.into_iter().filter(|&byte| byte < 4);
         (answer, marks.collect())
     }
 

@@ -22,12 +22,16 @@ fn runs(marks: &[u8]) -> Vec<(u8, usize, usize)> {
     runs
 }
 
-/// A full cast and a column complete with these probes, the cast with these runs.
+/// A full cast and a column complete with these probes, the cast with these runs,
+/// and a marching cast with the same runs.
 fn assert_cast(file: &[u8], ray: &Ray, probes: u32, expected: &[(u8, usize, usize)]) {
     let mut host = Host::default();
     for room in [1024, 1030] {
         let (cast, marks) = host.full_cast(file, ray, 2047, room);
         assert_eq!(cast, FullCast::Complete { probes });
+        assert_eq!(runs(&marks), expected);
+        let (cast, marks) = host.marching_cast(file, ray, 2052, room);
+        assert!(matches!(cast, FullCast::Complete { .. }));
         assert_eq!(runs(&marks), expected);
     }
     assert_eq!(host.column(file, ray, 128), Column::Done { probes });
@@ -37,6 +41,8 @@ fn assert_cast(file: &[u8], ray: &Ray, probes: u32, expected: &[(u8, usize, usiz
 fn assert_refused(file: &[u8], ray: &Ray, number: u32) {
     let mut host = Host::default();
     let (cast, _) = host.full_cast(file, ray, 2047, 1024);
+    assert_eq!(cast, FullCast::Refused(number));
+    let (cast, _) = host.marching_cast(file, ray, 2052, 1024);
     assert_eq!(cast, FullCast::Refused(number));
     assert_eq!(host.column(file, ray, 128), Column::Refused(number));
     let hit = host.first_hit(file, ray, 2047);
@@ -83,6 +89,22 @@ fn rays_of_file_k() {
     assert_cast(&k, &at_y(362), 39, &near);
     let clear = Host::default().first_hit(&k, &at_y(512), 2047);
     assert_eq!(clear, FirstHit::Clear { probes: 1 });
+}
+
+#[test]
+fn marches_of_file_k() {
+    let k = file_k();
+    let mut host = Host::default();
+    for (ray, probes) in [(AXIS, 49), (at_y(512), 5)] {
+        for budget in 0..probes {
+            let (cast, _) = host.marching_cast(&k, &ray, budget, 1024);
+            assert_eq!(cast.number(), 131_072 + budget);
+        }
+        for budget in [probes, probes + 1, 2052, u32::MAX] {
+            let (cast, _) = host.marching_cast(&k, &ray, budget, 1024);
+            assert_eq!(cast, FullCast::Complete { probes });
+        }
+    }
 }
 
 #[test]
@@ -141,6 +163,8 @@ fn refused_rays() {
         let ray = Ray { a: [0, far, 0], b };
         let mut host = Host::default();
         assert!(host.full_cast(&k, &ray, 2047, 1024).0.probes().is_some());
+        let (cast, _) = host.marching_cast(&k, &ray, 2052, 1024);
+        assert!(cast.probes().is_some());
         assert!(host.first_hit(&k, &ray, 2047).probes().is_some());
         let hit = host.viewer_first_hit(&k, &in_millimetres(&ray), 2047);
         assert!(hit.probes().is_some());
@@ -173,6 +197,8 @@ fn refused_files() {
 fn refused_buffers() {
     let mut host = Host::default();
     let (cast, _) = host.full_cast(&file_k(), &AXIS, 2047, 1023);
+    assert_eq!(cast, FullCast::Refused(14));
+    let (cast, _) = host.marching_cast(&file_k(), &AXIS, 2052, 1023);
     assert_eq!(cast, FullCast::Refused(14));
     let column = host.column(&file_k(), &AXIS, 127);
     assert_eq!(column, Column::Refused(14));

@@ -7,12 +7,15 @@ use reference::view::ViewerHit;
 use std::collections::BTreeMap;
 
 /// Classes, and how often each must have come at least.
-const CLASSES: [(&str, &[&str], u32); 14] = [
+const CLASSES: [(&str, &[&str], u32); 17] = [
     ("check", &["accepted"], 3_000),
     ("place", &["accepted"], 3_000),
     ("full cast", &["complete", "spent"], 800),
     ("marks", &["empty", "crossing", "inside"], 400),
     ("marks", &["not looked at"], 800),
+    ("marching cast", &["complete", "spent"], 1_000),
+    ("marching marks", &["empty", "crossing", "inside"], 1_000),
+    ("marching marks", &["not looked at"], 1_000),
     ("first hit", &["crossing", "inside", "clear", "spent"], 800),
     ("column", &["done"], 3_000),
     ("probes", &["1", "2 to 19", "20 to 199", "200 or more"], 40),
@@ -51,11 +54,15 @@ const REFUSED: u32 = 10;
 const MARKS: [&str; 4] = ["empty", "crossing", "inside", "not looked at"];
 
 /// The refusal numbers of each call.
-const REFUSALS: [(&str, &[u32]); 6] = [
+const REFUSALS: [(&str, &[u32]); 7] = [
     ("check", &[1, 2, 3, 4, 5, 6, 7, 8, 9, 10, 11]),
     ("place", &[1, 2, 3, 4, 5, 6, 7, 8, 9, 10, 11, 12]),
     (
         "full cast",
+        &[1, 2, 3, 4, 5, 6, 7, 8, 9, 10, 11, 12, 13, 14],
+    ),
+    (
+        "marching cast",
         &[1, 2, 3, 4, 5, 6, 7, 8, 9, 10, 11, 12, 13, 14],
     ),
     ("first hit", &[1, 2, 3, 4, 5, 6, 7, 8, 9, 10, 11, 12, 13]),
@@ -113,14 +120,23 @@ impl Coverage {
     }
 
     pub fn full_cast(&mut self, answer: FullCast, marks: &[u8]) {
+        self.cast(["full cast", "marks"], answer, marks);
+    }
+
+    pub fn marching_cast(&mut self, answer: FullCast, marks: &[u8]) {
+        self.cast(["marching cast", "marching marks"], answer, marks);
+    }
+
+    /// A cast that leaves marks, and their subject.
+    fn cast(&mut self, [call, of_marks]: [&'static str; 2], answer: FullCast, marks: &[u8]) {
         match answer {
-            FullCast::Refused(number) => return self.count("full cast", refused(number)),
-            FullCast::Complete { .. } => self.count("full cast", "complete"),
-            FullCast::Spent { .. } => self.count("full cast", "spent"),
+            FullCast::Refused(number) => return self.count(call, refused(number)),
+            FullCast::Complete { .. } => self.count(call, "complete"),
+            FullCast::Spent { .. } => self.count(call, "spent"),
         }
         for (byte, name) in (0..).zip(MARKS) {
             if marks.contains(&byte) {
-                self.count("marks", name);
+                self.count(of_marks, name);
             }
         }
     }

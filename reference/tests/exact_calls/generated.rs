@@ -17,7 +17,7 @@ use reference::view::in_millimetres;
 const SCENES: [usize; 9] = [800, 700, 900, 700, 400, 200, 600, 150, 50];
 const CANCELLING_OR_BORED: usize = 500;
 
-/// All requests of a host, eight for each scene, and what they covered.
+/// All requests of a host, ten for each scene, and what they covered.
 struct Run {
     random: SplitMix64,
     host: Host,
@@ -62,6 +62,17 @@ impl Run {
         answer.probes()
     }
 
+    /// A marching cast, with a budget for certain completion and with another.
+    fn marches(&mut self, file: &[u8], ray: &Ray) {
+        let enough = self.random.pick(&[2052, u32::MAX]);
+        let (answer, marks) = self.host.marching_cast(file, ray, enough, 1024);
+        self.coverage.marching_cast(answer, &marks);
+        let budget = self.budget(answer.probes().unwrap_or(1));
+        let (_, room) = room(&mut self.random, 1024);
+        let (answer, marks) = self.host.marching_cast(file, ray, budget, room);
+        self.coverage.marching_cast(answer, &marks);
+    }
+
     fn scene(&mut self, file: &[u8], ray: &Ray) {
         if let Ok(part) = accept(file, ray) {
             self.coverage.part(&part);
@@ -74,6 +85,7 @@ impl Run {
         let (_, room) = room(&mut self.random, 1024);
         let (answer, marks) = self.host.full_cast(file, ray, budget, room);
         self.coverage.full_cast(answer, &marks);
+        self.marches(file, ray);
         let count = self.first_hits(file, ray).unwrap_or(1);
         let (view, _) = changed(&mut self.random, &in_millimetres(ray));
         let budget = self.budget(count);
@@ -105,8 +117,14 @@ fn generated_requests() {
     }
     run.scenes(CANCELLING_OR_BORED, |random, _| cancelling_or_bored(random));
     run.coverage.print();
-    let casts = ["full cast", "first hit", "column", "viewer"];
-    assert_eq!(run.coverage.requests(&casts), 30_000);
+    let casts = [
+        "full cast",
+        "marching cast",
+        "first hit",
+        "column",
+        "viewer",
+    ];
+    assert_eq!(run.coverage.requests(&casts), 40_000);
     assert_eq!(run.coverage.requests(&["check", "place"]), 10_000);
     run.coverage.assert_populated();
 }

@@ -1,5 +1,5 @@
 //! The archive against the exact fractions: every call on all cases of "Rays
-//! and places tried" and on 40,000 generated requests, of which 30,000 are
+//! and places tried" and on 50,000 generated requests, of which 40,000 are
 //! casts, each made plain and counted. Nothing here takes the quick path.
 
 #[path = "../common/entries.rs"]

@@ -39,6 +39,7 @@ fn the_worked_calls() {
         request.answer(&mut archive);
         assert_eq!(request.refused().compare(&mut after), None);
     }
-    assert_eq!(after, Totals::from([4, 39 + 15 + 39 + 15, 4]));
-    assert_eq!(archive, Totals::from([4, 39 + 15 + 39 + 15, 0]));
+    let probes = 39 + 15 + 39 + 49 + 15;
+    assert_eq!(after, Totals::from([5, probes, 5]));
+    assert_eq!(archive, Totals::from([5, probes, 0]));
 }

@@ -1,7 +1,8 @@
 //! The running totals that the archive's counted calls leave: sequences of all
-//! four, refusals and saved records among them, from zero and from values around
-//! 2^32 and near the ceiling; the figure of 2,047 probes a cast; and that the listed
-//! calls and saved records find a mistake in adding and in reading.
+//! five, refusals and saved records among them, from zero and from values around
+//! 2^32 and near the ceiling; the figure of 2,047 probes a cast, which speaks of
+//! records that no marching cast has changed; and that the listed calls and saved
+//! records find a mistake in adding and in reading.
 
 #[path = "../common/calls.rs"]
 mod calls;

@@ -1,47 +1,15 @@
-//! Marks, probes and budgets against the rules, by the exact fractions and by
-//! the quick path: each tick judged alone, the probe count by its definition,
-//! both by fractions; first hit and column by the full cast.
+//! Full casts, first hits and columns, by the halving search.
 
+use crate::Case;
 use reference::cast::{column_by, first_hit, first_hit_by, full_cast, full_cast_by};
-use reference::cast::{judge, judge_tick, probe_count};
+use reference::cast::{judge, probe_count};
 use reference::cast::{Column, FirstHit, FullCast, Mark, NOT_LOOKED_AT};
-use reference::field::{tick_bounds, ExactField, Ray, SpanBounds};
-use reference::generate::{self, Shape, SplitMix64, STYLES};
-use reference::part::{read, FileBuilder, Part};
-use reference::quick::TickField;
-
-struct Case {
-    part: Part,
-    ray: Ray,
-    file: Vec<u8>,
-    /// Each tick judged alone.
-    alone: Vec<u8>,
-    /// The probe count of the whole ray by its definition.
-    count: u32,
-}
+use reference::field::{tick_bounds, Ray, SpanBounds};
+use reference::part::{read, FileBuilder};
 
 impl Case {
-    fn new(part: Part, ray: Ray) -> Case {
-        let file = FileBuilder::from(&part).build();
-        let mark = |t| judge_tick(&part, &ray, t).expect("a tree").byte();
-        let alone = (0..1024).map(mark).collect();
-        let count = probe_count(&part, &ray, 0, 1024).expect("a tree");
-        Case {
-            part,
-            ray,
-            file,
-            alone,
-            count,
-        }
-    }
-
-    fn check(&self) {
-        assert!((1..=2047).contains(&self.count));
-        self.check_calls::<TickField>();
-        self.check_calls::<ExactField>();
-    }
-
-    fn check_calls<F: SpanBounds>(&self) {
+    /// The three calls with budgets about the count, and with fewer.
+    pub fn check_halving<F: SpanBounds>(&self) {
         let more = [self.count + 1, 2047, 2048, 65_536, u32::MAX];
         let fewer = (2..self.count).step_by(1 + self.count as usize / 20);
         let limits = [0, 1, self.count - 1, self.count].into_iter();
@@ -161,65 +129,6 @@ impl Case {
             assert_eq!(probes, self.hit_probes(0, 1024, tick));
         }
     }
-}
-
-fn run(seed: u64, shape: &Shape, count: usize) {
-    let mut random = SplitMix64::new(seed);
-    for style in STYLES {
-        for _ in 0..count {
-            let part = generate::part(&mut random, shape);
-            let ray = generate::ray(&mut random, &part, style);
-            Case::new(part, ray).check();
-        }
-    }
-}
-
-#[test]
-fn few_points() {
-    let shape = Shape {
-        points: (1, 4),
-        reach: 500,
-        radius: (50, 1024),
-        weight: (-6, 30),
-        iso: (1, 6),
-    };
-    run(41, &shape, 30);
-}
-
-#[test]
-fn small_radii() {
-    let shape = Shape {
-        points: (1, 6),
-        reach: 15,
-        radius: (1, 15),
-        weight: (-9, 40),
-        iso: (1, 5),
-    };
-    run(42, &shape, 30);
-}
-
-#[test]
-fn large_weights() {
-    let shape = Shape {
-        points: (2, 6),
-        reach: 300,
-        radius: (200, 1024),
-        weight: (-4096, 4096),
-        iso: (1, 300),
-    };
-    run(43, &shape, 20);
-}
-
-#[test]
-fn deep_trees() {
-    let shape = Shape {
-        points: (10, 30),
-        reach: 700,
-        radius: (50, 600),
-        weight: (-5, 12),
-        iso: (1, 4),
-    };
-    run(44, &shape, 3);
 }
 
 /// Two large points that cancel keep every tick undecided: the most probes.
