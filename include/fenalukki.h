@@ -416,8 +416,9 @@ uint32_t fenalukki_full_cast(const uint8_t *file, size_t file_len,
  * enough. Where the first 64 ticks are decided together, the first probe marks
  * them. The first probe of a full cast marks nothing, unless the whole ray is
  * decided together: then it is the only one, and a march takes five. So a march
- * suits a viewer that has few probes for a ray and wants the ticks near A. Which
- * of the two takes fewer probes for all ticks goes by the part and the ray.
+ * suits a viewer that has few probes for a ray and wants the ticks near A. For
+ * all ticks of a ray a full cast takes fewer probes on most rays tried;
+ * docs/BENCHMARKS.md has the figures of both.
  */
 uint32_t fenalukki_marching_cast(const uint8_t *file, size_t file_len,
                                  int32_t ax, int32_t ay, int32_t az,
