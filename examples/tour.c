@@ -1,5 +1,5 @@
 /* A tour of fenalukki.h: writes a part of three points, makes each of the
- * thirteen calls, has the points joined by other operators, and each refusal
+ * fifteen calls, has the points joined by other operators, and each refusal
  * number answered once. What it prints is in tour.out. Lengths are in steps of
  * 1/64 mm but for the viewer's, which are in millimetres. */
 #include "fenalukki.h"
@@ -243,23 +243,40 @@ static int print_run(const uint8_t *marks, int first)
     return after;
 }
 
-static void print_cast(const struct part *part, uint32_t budget)
+static void print_runs(const uint8_t *marks)
 {
-    uint8_t marks[FENALUKKI_MARKS_BYTES];
-    uint32_t number = fenalukki_full_cast(part->bytes, part->length, 0, 1024, 0, 0, -1024, 0,
-                                          budget, marks, sizeof marks);
     int tick = 0;
 
+    while (tick < FENALUKKI_TICKS)
+        tick = print_run(marks, tick);
+}
+
+/* Of a full or a marching cast. Returns 1 unless it is refused. */
+static int print_answer(uint32_t number, uint32_t budget, const uint8_t *marks)
+{
     printf("budget %lu: ", (unsigned long)budget);
     if (is_refused(number))
-        return;
+        return 0;
     printf("%lu probes, ", (unsigned long)fenalukki_probes(number));
     if (fenalukki_is_spent(number))
         printf("spent at tick %d\n", fenalukki_tick_reached(marks));
     else
         printf("complete\n");
-    while (tick < FENALUKKI_TICKS)
-        tick = print_run(marks, tick);
+    return 1;
+}
+
+static uint32_t full_cast(const struct part *part, uint32_t budget, uint8_t *marks)
+{
+    return fenalukki_full_cast(part->bytes, part->length, 0, 1024, 0, 0, -1024, 0, budget, marks,
+                               FENALUKKI_MARKS_BYTES);
+}
+
+static void print_cast(const struct part *part, uint32_t budget)
+{
+    uint8_t marks[FENALUKKI_MARKS_BYTES];
+
+    if (print_answer(full_cast(part, budget, marks), budget, marks))
+        print_runs(marks);
 }
 
 static void show_casts(const struct part *part)
@@ -270,7 +287,46 @@ static void show_casts(const struct part *part)
     print_cast(part, 0);
 }
 
-/* 6. First hits by whole steps. */
+/* 6. Marching casts on the same ray: complete, with the full cast's marks and
+ * probes of its own, and spent. */
+
+static uint32_t marching_cast(const struct part *part, uint32_t budget, uint8_t *marks)
+{
+    return fenalukki_marching_cast(part->bytes, part->length, 0, 1024, 0, 0, -1024, 0, budget,
+                                   marks, FENALUKKI_MARKS_BYTES);
+}
+
+/* Of two casts that are complete. */
+static void print_beside_full_cast(const struct part *part)
+{
+    uint8_t marks[FENALUKKI_MARKS_BYTES], full_marks[FENALUKKI_MARKS_BYTES];
+    uint32_t number = marching_cast(part, FENALUKKI_MARCHING_ENOUGH, marks);
+    uint32_t full = full_cast(part, FENALUKKI_ENOUGH, full_marks);
+
+    if (!print_answer(number, FENALUKKI_MARCHING_ENOUGH, marks))
+        return;
+    printf("  marks %s those of the full cast, which made %lu probes\n",
+           memcmp(marks, full_marks, sizeof marks) == 0 ? "are" : "differ from",
+           (unsigned long)fenalukki_probes(full));
+}
+
+static void print_march(const struct part *part, uint32_t budget)
+{
+    uint8_t marks[FENALUKKI_MARKS_BYTES];
+
+    if (print_answer(marching_cast(part, budget, marks), budget, marks))
+        print_runs(marks);
+}
+
+static void show_marches(const struct part *part)
+{
+    printf("\n6. Marching casts on the same ray\n");
+    print_beside_full_cast(part);
+    print_march(part, 30);
+    print_march(part, 1);
+}
+
+/* 7. First hits by whole steps. */
 
 static void print_hit(uint64_t number)
 {
@@ -300,14 +356,14 @@ static void print_hit_on(const struct part *part, int32_t ax, int32_t y, uint32_
 
 static void show_hits(const struct part *part)
 {
-    printf("\n6. First hits\n");
+    printf("\n7. First hits\n");
     print_hit_on(part, -1024, -256, FENALUKKI_ENOUGH);
     print_hit_on(part, 0, -256, FENALUKKI_ENOUGH);
     print_hit_on(part, -1024, 900, FENALUKKI_ENOUGH);
     print_hit_on(part, -1024, -256, 5);
 }
 
-/* 7. The viewer's first hits, by floats in millimetres: the first ray of 6, then
+/* 8. The viewer's first hits, by floats in millimetres: the first ray of 7, then
  * a camera's ray as it is, then rounded to steps. */
 
 /* Of a hit: the point where its tick begins, in millimetres. It is exact, for it
@@ -351,7 +407,7 @@ static void show_views(const struct part *part)
     const float raw_b[3] = {(float)camera_b[0], (float)camera_b[1], (float)camera_b[2]};
     float a[3], b[3];
 
-    printf("\n7. The viewer's first hits\n");
+    printf("\n8. The viewer's first hits\n");
     print_view(part, whole_a, whole_b);
     print_view(part, raw_a, raw_b);
     round_end(camera_a, a);
@@ -359,7 +415,7 @@ static void show_views(const struct part *part)
     print_view(part, a, b);
 }
 
-/* 8. Bounds at a place, in units of 2^-32. */
+/* 9. Bounds at a place, in units of 2^-32. */
 
 static void print_bounds(const struct part *part, int32_t x, int32_t y, int32_t z)
 {
@@ -379,14 +435,14 @@ static void print_bounds(const struct part *part, int32_t x, int32_t y, int32_t 
 
 static void show_bounds(const struct part *part)
 {
-    printf("\n8. Bounds at a place, in units of 2^-32; solid from the field %d on\n", ISO);
+    printf("\n9. Bounds at a place, in units of 2^-32; solid from the field %d on\n", ISO);
     print_bounds(part, 0, -256, 0);
     print_bounds(part, 0, 400, 0);
     print_bounds(part, 0, 20, 1);
     print_bounds(part, 1000, 1000, 1000);
 }
 
-/* 9. Cut and lesser, with the ball moved into the bar. The bar is the earlier
+/* 10. Cut and lesser, with the ball moved into the bar. The bar is the earlier
  * operand, so the cut is the bar without the ball. */
 
 enum { FIRST_LINE = 15, AFTER_LINE = 25 }; /* y from 64 down to -576 */
@@ -408,12 +464,12 @@ static void print_overlap(int kind)
 
 static void show_overlaps(void)
 {
-    printf("\n9. Cut and lesser of the bar and the ball, moved to y 0\n");
+    printf("\n10. Cut and lesser of the bar and the ball, moved to y 0\n");
     print_overlap(FENALUKKI_KIND_CUT);
     print_overlap(FENALUKKI_KIND_LESSER);
 }
 
-/* 10. Counted calls: three totals that each call adds to. */
+/* 11. Counted calls: three totals that each call adds to. */
 
 static void print_totals(const char *after, const uint64_t totals[FENALUKKI_TOTALS])
 {
@@ -429,10 +485,13 @@ static void show_totals(const struct part *part)
     uint8_t marks[FENALUKKI_MARKS_BYTES], bits[FENALUKKI_COLUMN_BYTES];
     uint64_t totals[FENALUKKI_TOTALS] = {0, 0, 0};
 
-    printf("\n10. Running totals\n");
+    printf("\n11. Running totals\n");
     fenalukki_full_cast_counted(file, length, 0, 1024, 0, 0, -1024, 0, 30, marks, sizeof marks,
                                 totals);
     print_totals("a full cast with budget 30", totals);
+    fenalukki_marching_cast_counted(file, length, 0, 1024, 0, 0, -1024, 0,
+                                    FENALUKKI_MARCHING_ENOUGH, marks, sizeof marks, totals);
+    print_totals("a marching cast", totals);
     fenalukki_column_counted(file, length, 0, 1024, 0, 0, -1024, 0, bits, sizeof bits, totals);
     print_totals("a column", totals);
     fenalukki_first_hit_counted(file, length, -1024, -256, 0, 1024, -256, 0, FENALUKKI_ENOUGH,
@@ -448,7 +507,7 @@ static void show_totals(const struct part *part)
     print_totals("a column, with probes near the ceiling", totals);
 }
 
-/* 11. A saved record, read into the totals: its probes are at the ceiling of 32
+/* 12. A saved record, read into the totals: its probes are at the ceiling of 32
  * bits, and the column after it counts on from there. */
 
 static const uint8_t saved[FENALUKKI_SAVED_BYTES] = {
@@ -470,7 +529,7 @@ static void show_restore(const struct part *part)
     uint8_t bits[FENALUKKI_COLUMN_BYTES];
     uint64_t totals[FENALUKKI_TOTALS] = {0, 0, 0};
 
-    printf("\n11. A saved record\n");
+    printf("\n12. A saved record\n");
     print_restore(FENALUKKI_SAVED_BYTES, totals);
     fenalukki_column_counted(part->bytes, part->length, 0, 1024, 0, 0, -1024, 0, bits,
                              sizeof bits, totals);
@@ -478,7 +537,7 @@ static void show_restore(const struct part *part)
     print_restore(FENALUKKI_SAVED_BYTES - 1, totals);
 }
 
-/* 12. Every refusal. */
+/* 13. Every refusal. */
 
 /* 1 to 4 by a file that has one fault. */
 static uint64_t refused_file(struct part part, int number)
@@ -596,7 +655,7 @@ static void show_refusals(const struct part *part)
 {
     int number;
 
-    printf("\n12. Refusals\n");
+    printf("\n13. Refusals\n");
     for (number = 1; number <= FENALUKKI_REFUSALS; number++) {
         uint64_t answer = refused_call(part, number);
 
@@ -616,6 +675,7 @@ int main(void)
     show_writes(&part);
     show_plane(&part);
     show_casts(&part);
+    show_marches(&part);
     show_hits(&part);
     show_views(&part);
     show_bounds(&part);

@@ -22,18 +22,20 @@
  * weight times (S/(256 r) + 1/16384), where S adds the sizes of the ray's three
  * coordinate differences and r is the point's radius, both in steps.
  *
- * The thirteen entries
+ * The fifteen entries
  *
  *   fenalukki_check                      a file's node count and iso-value
  *   fenalukki_read                       the same, and the nodes' numbers
  *   fenalukki_write                      a part file from the nodes' numbers
  *   fenalukki_place_bounds               the field's bounds at a place
  *   fenalukki_full_cast                  the mark of every tick
+ *   fenalukki_marching_cast              the same, by forward steps from A
  *   fenalukki_first_hit                  the first tick that is not empty
  *   fenalukki_column                     a bit for each tick, solid or not
  *   fenalukki_viewer_first_hit           the first hit, by floats in mm
- *   fenalukki_full_cast_counted          each of the four casting calls,
- *   fenalukki_first_hit_counted            with running totals
+ *   fenalukki_full_cast_counted          each of the five casting calls,
+ *   fenalukki_marching_cast_counted        with running totals
+ *   fenalukki_first_hit_counted
  *   fenalukki_column_counted
  *   fenalukki_viewer_first_hit_counted
  *   fenalukki_restore_totals             totals from a saved record
@@ -75,8 +77,9 @@
  *                       viewer's calls, in millimetres, any floats
  *   x, y, z             a place in steps, any numbers
  *   budget              the most probes that the call may make; 2,047 is
- *                       always enough
- *   marks, marks_len    the buffer of a full cast, 1,024 bytes or more
+ *                       always enough, in a marching cast 2,052
+ *   marks, marks_len    the buffer of a full or a marching cast, 1,024 bytes
+ *                       or more
  *   bits, bits_len      the buffer of a column, 128 bytes or more
  *   numbers, numbers_len
  *                       of a write: the nodes' numbers, any numbers, and how
@@ -130,6 +133,7 @@
  *     bounds at a place           1 to 12
  *     a first hit                 1 to 13
  *     a full cast, a column       1 to 14
+ *     a marching cast             1 to 14
  *     a viewer's first hit        1 to 11, then 15, then 13
  *     a saved record              18
  *
@@ -160,11 +164,12 @@
  *
  *   A probe is one working out of the field's bounds over a stretch of ticks.
  *   The time of a cast goes by its probes times the part's records. The most
- *   are 2,047 probes of 511 records. A column of that size, of 256 points, 3 sums
- *   and 252 cuts that leave every tick undecided, takes 70 million instructions
- *   by callgrind, which is 67 for a probe and record; no call tried took more.
- *   With 255 sums it takes 66 million. A smaller budget makes fewer probes and
- *   so bounds a call's time. docs/BENCHMARKS.md has the figures of other parts.
+ *   are 2,047 probes, in a marching cast 2,052, of 511 records. A column of that
+ *   size, of 256 points, 3 sums and 252 cuts that leave every tick undecided,
+ *   takes 70 million instructions by callgrind, which is 67 for a probe and
+ *   record, and a marching cast as many; no call tried took more. With 255 sums
+ *   a column takes 66 million. A smaller budget makes fewer probes and so bounds
+ *   a call's time. docs/BENCHMARKS.md has the figures of other parts.
  *
  * Coming from version 1
  *
@@ -195,19 +200,22 @@
 /* The version of this header and of the archive beside it. The major number
  * changes where a host has to change, the minor where names are added. */
 #define FENALUKKI_VERSION_MAJOR 2
-#define FENALUKKI_VERSION_MINOR 0
+#define FENALUKKI_VERSION_MINOR 1
 #define FENALUKKI_VERSION_PATCH 0
-#define FENALUKKI_VERSION "2.0.0"
+#define FENALUKKI_VERSION "2.1.0"
 #define FENALUKKI_VERSION_NUMBER \
     (FENALUKKI_VERSION_MAJOR * 10000 + FENALUKKI_VERSION_MINOR * 100 + FENALUKKI_VERSION_PATCH)
 
 /* Rays, and what a call is lent. */
 #define FENALUKKI_TICKS 1024
-#define FENALUKKI_MARKS_BYTES 1024 /* the buffer of a full cast */
+#define FENALUKKI_MARKS_BYTES 1024 /* the buffer of a full or a marching cast */
 #define FENALUKKI_COLUMN_BYTES 128 /* the buffer of a column */
-#define FENALUKKI_ENOUGH 2047 /* the most probes of a cast: a budget for any */
 #define FENALUKKI_STEPS_PER_MM 64
 #define FENALUKKI_COORDINATE_MAX 2047 /* in steps; the least is its negative */
+
+/* The most probes of a cast: a budget that is always enough. */
+#define FENALUKKI_ENOUGH 2047 /* of any cast but a marching one */
+#define FENALUKKI_MARCHING_ENOUGH 2052 /* of a marching cast */
 
 /* The part file. */
 #define FENALUKKI_FILE_BYTES_MIN 24
@@ -238,7 +246,7 @@
 #define FENALUKKI_NUMBERS_MAX 3066
 #define FENALUKKI_WRITE_BYTES_MAX 6144 /* 511 records and the trailer */
 
-/* Marks: a tick's byte after a full cast. */
+/* Marks: a tick's byte after a full or a marching cast. */
 #define FENALUKKI_EMPTY 0
 #define FENALUKKI_CROSSING 1
 #define FENALUKKI_INSIDE 2
@@ -383,6 +391,42 @@ uint32_t fenalukki_full_cast(const uint8_t *file, size_t file_len,
                              uint8_t *marks, size_t marks_len);
 
 /*
+ * Marching cast: a full cast by forward steps from A, with other probes.
+ *
+ * The first candidate is the 64 ticks from tick 0 on. A candidate is cut to what
+ * is left of the ray, and is one probe. If it is decided, its ticks are marked,
+ * and the next one begins after it and is twice its length. If it is undecided,
+ * it is halved, rounding down; but one undecided tick is crossing, and the next
+ * candidate is the two ticks after it.
+ *
+ * Returns
+ *   1 to 14            the refusal number
+ *   65,536 + probes    complete
+ *   131,072 + probes   spent: the budget was used up and another probe needed
+ *
+ * Unless refused, byte t of marks is the mark of tick t, for t from 0 to
+ * 1,023: 0 empty, 1 crossing, 2 inside, 3 not looked at. A complete cast has
+ * no 3, and leaves the bytes that a complete full cast leaves. Of a spent one
+ * probes is the budget, the tick reached is the first byte that is 3 (byte 0 if
+ * budget is 0), all bytes from it on are 3, and those before it are as a larger
+ * budget would leave them.
+ * Bytes from 1,024 on are never written.
+ *
+ * Its probes are at most 2,052, and some ray takes them; 2,047 is not always
+ * enough. Where the first 64 ticks are decided together, the first probe marks
+ * them. The first probe of a full cast marks nothing, unless the whole ray is
+ * decided together: then it is the only one, and a march takes five. So a march
+ * suits a viewer that has few probes for a ray and wants the ticks near A. For
+ * all ticks of a ray a full cast takes fewer probes on most rays tried;
+ * docs/BENCHMARKS.md has the figures of both.
+ */
+uint32_t fenalukki_marching_cast(const uint8_t *file, size_t file_len,
+                                 int32_t ax, int32_t ay, int32_t az,
+                                 int32_t bx, int32_t by, int32_t bz,
+                                 uint32_t budget,
+                                 uint8_t *marks, size_t marks_len);
+
+/*
  * First hit: the first tick that is not empty. It probes in the same order as
  * a full cast and stops as soon as that tick is known.
  *
@@ -455,8 +499,10 @@ uint64_t fenalukki_viewer_first_hit(const uint8_t *file, size_t file_len,
  *
  * The totals can be checked by a rule. From 0 on, where these calls alone have
  * changed them and no saved record was read, the probes are at most 2,047 times
- * the casts, while no total has reached its ceiling and afterwards too. In C
- * that product can wrap; totals[1] / 2047 <= totals[0], which follows, cannot.
+ * the casts if every marching cast among the calls was refused, and at most 2,052
+ * times in any case, while no total has reached its ceiling and afterwards too.
+ * In C these products can wrap; totals[1] / 2047 <= totals[0] and
+ * totals[1] / 2052 <= totals[0], which follow, cannot.
  */
 uint32_t fenalukki_full_cast_counted(const uint8_t *file, size_t file_len,
                                      int32_t ax, int32_t ay, int32_t az,
@@ -464,6 +510,13 @@ uint32_t fenalukki_full_cast_counted(const uint8_t *file, size_t file_len,
                                      uint32_t budget,
                                      uint8_t *marks, size_t marks_len,
                                      uint64_t totals[3]);
+
+uint32_t fenalukki_marching_cast_counted(const uint8_t *file, size_t file_len,
+                                         int32_t ax, int32_t ay, int32_t az,
+                                         int32_t bx, int32_t by, int32_t bz,
+                                         uint32_t budget,
+                                         uint8_t *marks, size_t marks_len,
+                                         uint64_t totals[3]);
 
 uint64_t fenalukki_first_hit_counted(const uint8_t *file, size_t file_len,
                                      int32_t ax, int32_t ay, int32_t az,
@@ -534,8 +587,9 @@ static inline int fenalukki_is_spent(uint64_t number)
     return k > 0 ? k == FENALUKKI_K_SPENT : number >= 131072;
 }
 
-/* Of the marks that a full cast left, if it was not refused: the tick reached,
- * which is the first byte that is 3, or 1,024 where none is: complete. */
+/* Of the marks that a full or a marching cast left, if it was not refused: the
+ * tick reached, which is the first byte that is 3, or 1,024 where none is:
+ * complete. */
 static inline int fenalukki_tick_reached(const uint8_t *marks)
 {
     int tick = 0;

@@ -1,5 +1,5 @@
 /*
- * The thirteen C entries under libFuzzer, each compared with the reference: the
+ * The fifteen C entries under libFuzzer, each compared with the reference: the
  * number, every byte of the buffer, of the bounds, of the nodes' numbers and of
  * the totals and around them, and the file, the numbers and the saved record
  * handed over. What is lent lies against inaccessible pages. robust/fuzz builds
@@ -8,18 +8,18 @@
  * An input is the ray lister's: A and B as six signed 16-bit numbers, the
  * budget unsigned 16 bits, then the file, little-endian. With fewer than 14
  * bytes the file is empty and the numbers are 0. On each input a file is
- * checked, bounds are asked at A and a first hit is made; a full cast with just
- * enough room and with a byte too little; a column with a byte more than it
- * needs, with a byte too little and with none; and the viewer's first hit with
- * the numbers as steps and as the upper halves of floats. Each casting call is
- * made plain and counted. The file's nodes are read, and what stands before its
- * trailer is written as a part, two bytes for each number and the trailer's
- * iso-value: at place 0 and at A's x, unsigned, with just enough room, and at
- * A's y, below 0 a place near 2^64, with B's x, unsigned, as the room. The
- * file's first bytes are read as a saved record: none, 11, 12, 13, and as many
- * as the lower five bits of A's z say, or all where there are fewer. Each piece
- * is lent an odd number of times, so that a call's changes sides from input to
- * input.
+ * checked, bounds are asked at A and a first hit is made; a full cast and a
+ * marching cast with just enough room and with a byte too little; a column with a
+ * byte more than it needs, with a byte too little and with none; and the viewer's
+ * first hit with the numbers as steps and as the upper halves of floats. Each
+ * casting call is made plain and counted. The file's nodes are read, and what
+ * stands before its trailer is written as a part, two bytes for each number and
+ * the trailer's iso-value: at place 0 and at A's x, unsigned, with just enough
+ * room, and at A's y, below 0 a place near 2^64, with B's x, unsigned, as the
+ * room. The file's first bytes are read as a saved record: none, 11, 12, 13, and
+ * as many as the lower five bits of A's z say, or all where there are fewer. Each
+ * piece is lent an odd number of times, so that a call's changes sides from input
+ * to input.
  */
 #include "fenalukki.h"
 #include "lent.h"
@@ -48,6 +48,10 @@ uint32_t reference_full_cast(const uint8_t *file, size_t file_len,
                              int32_t ax, int32_t ay, int32_t az,
                              int32_t bx, int32_t by, int32_t bz,
                              uint32_t budget, uint8_t *marks, size_t marks_len);
+uint32_t reference_marching_cast(const uint8_t *file, size_t file_len,
+                                 int32_t ax, int32_t ay, int32_t az,
+                                 int32_t bx, int32_t by, int32_t bz,
+                                 uint32_t budget, uint8_t *marks, size_t marks_len);
 uint64_t reference_first_hit(const uint8_t *file, size_t file_len,
                              int32_t ax, int32_t ay, int32_t az,
                              int32_t bx, int32_t by, int32_t bz, uint32_t budget);
@@ -67,6 +71,23 @@ struct input {
     int32_t ray[6];
     uint32_t budget;
 };
+
+/* A call that leaves marks: the reference's, and the archive's plain and counted. */
+struct caster {
+    const char *name, *counted_name;
+    uint32_t (*right)(const uint8_t *, size_t, int32_t, int32_t, int32_t, int32_t, int32_t,
+                      int32_t, uint32_t, uint8_t *, size_t);
+    uint32_t (*plain)(const uint8_t *, size_t, int32_t, int32_t, int32_t, int32_t, int32_t,
+                      int32_t, uint32_t, uint8_t *, size_t);
+    uint32_t (*counted)(const uint8_t *, size_t, int32_t, int32_t, int32_t, int32_t, int32_t,
+                        int32_t, uint32_t, uint8_t *, size_t, uint64_t *);
+};
+
+static const struct caster full = {"full cast", "full cast counted", reference_full_cast,
+                                   fenalukki_full_cast, fenalukki_full_cast_counted};
+static const struct caster marching = {"marching cast", "marching cast counted",
+                                       reference_marching_cast, fenalukki_marching_cast,
+                                       fenalukki_marching_cast_counted};
 
 /* What a write is given. */
 struct drawing {
@@ -126,20 +147,20 @@ static void expect_counted(const char *call, uint64_t number)
     expect_same(call, take_back(&totals, after, sizeof after));
 }
 
-static void compare_full_cast(const struct input *in, size_t room)
+static void compare_cast(const struct input *in, const struct caster *caster, size_t room)
 {
     const int32_t *c = in->ray;
     uint8_t marks[MARKS];
-    uint32_t right = reference_full_cast(in->original, in->length, RAY, in->budget, marks, room);
+    uint32_t right = caster->right(in->original, in->length, RAY, in->budget, marks, room);
     size_t written = right < 65536 ? 0 : MARKS;
-    uint32_t found = fenalukki_full_cast(in->lent, in->length, RAY, in->budget,
-                                         lend(&buffer, NULL, room), room);
+    uint32_t found = caster->plain(in->lent, in->length, RAY, in->budget,
+                                   lend(&buffer, NULL, room), room);
 
-    expect("full cast", found, right, marks, written);
-    found = fenalukki_full_cast_counted(in->lent, in->length, RAY, in->budget,
-                                        lend(&buffer, NULL, room), room, lend_totals());
-    expect("full cast counted", found, right, marks, written);
-    expect_counted("full cast counted", right);
+    expect(caster->name, found, right, marks, written);
+    found = caster->counted(in->lent, in->length, RAY, in->budget, lend(&buffer, NULL, room), room,
+                            lend_totals());
+    expect(caster->counted_name, found, right, marks, written);
+    expect_counted(caster->counted_name, right);
 }
 
 static void compare_column(const struct input *in, size_t room)
@@ -319,8 +340,10 @@ int LLVMFuzzerTestOneInput(const uint8_t *data, size_t size)
         return 0;
     in.lent = lend(&file, in.original, in.length);
     lent_protect(&file);
-    compare_full_cast(&in, MARKS);
-    compare_full_cast(&in, MARKS - 1);
+    compare_cast(&in, &full, MARKS);
+    compare_cast(&in, &full, MARKS - 1);
+    compare_cast(&in, &marching, MARKS);
+    compare_cast(&in, &marching, MARKS - 1);
     compare_column(&in, COLUMN + 1);
     compare_column(&in, COLUMN - 1);
     compare_column(&in, 0);

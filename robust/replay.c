@@ -33,10 +33,12 @@ enum call {
     FULL_CAST,
     FIRST_HIT,
     COLUMN,
+    MARCH,
     VIEW,
     FULL_CAST_COUNTED,
     FIRST_HIT_COUNTED,
     COLUMN_COUNTED,
+    MARCH_COUNTED,
     VIEW_COUNTED,
     CHECK,
     BOUNDS,
@@ -79,10 +81,12 @@ static const struct {
     {"full cast", &cast_kinds, "the file"},
     {"first hit", &hit_kinds, "the file"},
     {"column", &column_kinds, "the file"},
+    {"marching cast", &cast_kinds, "the file"},
     {"viewer's first hit", &hit_kinds, "the file"},
     {"full cast counted", &cast_kinds, "the file"},
     {"first hit counted", &hit_kinds, "the file"},
     {"column counted", &column_kinds, "the file"},
+    {"marching cast counted", &cast_kinds, "the file"},
     {"viewer's first hit counted", &hit_kinds, "the file"},
     {"check of a file", &check_kinds, "the file"},
     {"bounds at a place", &bounds_kinds, "the file"},
@@ -183,7 +187,27 @@ static uint64_t viewer_answer(const struct request *r, const uint8_t *file, uint
                                               c[5], r->limit, totals);
 }
 
-/* Makes another casting call. */
+/* Makes a counted call on a ray in steps. */
+static uint64_t counted_answer(const struct request *r, const int32_t *c, const uint8_t *file,
+                               uint8_t *buffer, uint64_t *totals)
+{
+    switch (r->call) {
+    case FULL_CAST_COUNTED:
+        return fenalukki_full_cast_counted(file, r->handed_len, c[0], c[1], c[2], c[3], c[4], c[5],
+                                           r->limit, buffer, r->room, totals);
+    case FIRST_HIT_COUNTED:
+        return fenalukki_first_hit_counted(file, r->handed_len, c[0], c[1], c[2], c[3], c[4], c[5],
+                                           r->limit, totals);
+    case COLUMN_COUNTED:
+        return fenalukki_column_counted(file, r->handed_len, c[0], c[1], c[2], c[3], c[4], c[5],
+                                        buffer, r->room, totals);
+    default:
+        return fenalukki_marching_cast_counted(file, r->handed_len, c[0], c[1], c[2], c[3], c[4],
+                                               c[5], r->limit, buffer, r->room, totals);
+    }
+}
+
+/* Makes a casting call. */
 static uint64_t cast_answer(const struct request *r, const uint8_t *file, uint8_t *buffer,
                             uint64_t *totals)
 {
@@ -200,17 +224,14 @@ static uint64_t cast_answer(const struct request *r, const uint8_t *file, uint8_
     case COLUMN:
         return fenalukki_column(file, r->handed_len, c[0], c[1], c[2], c[3], c[4], c[5], buffer,
                                 r->room);
-    case FULL_CAST_COUNTED:
-        return fenalukki_full_cast_counted(file, r->handed_len, c[0], c[1], c[2], c[3], c[4], c[5],
-                                           r->limit, buffer, r->room, totals);
-    case FIRST_HIT_COUNTED:
-        return fenalukki_first_hit_counted(file, r->handed_len, c[0], c[1], c[2], c[3], c[4], c[5],
-                                           r->limit, totals);
-    case COLUMN_COUNTED:
-        return fenalukki_column_counted(file, r->handed_len, c[0], c[1], c[2], c[3], c[4], c[5],
-                                        buffer, r->room, totals);
-    default:
+    case MARCH:
+        return fenalukki_marching_cast(file, r->handed_len, c[0], c[1], c[2], c[3], c[4], c[5],
+                                       r->limit, buffer, r->room);
+    case VIEW:
+    case VIEW_COUNTED:
         return viewer_answer(r, file, totals);
+    default:
+        return counted_answer(r, c, file, buffer, totals);
     }
 }
 

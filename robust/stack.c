@@ -12,7 +12,7 @@
 #include <string.h>
 #include <ucontext.h>
 
-enum { STACK = 1 << 20, MOST = 32768, PATTERN = 0xa5, ENTRIES = 13 };
+enum { STACK = 1 << 20, MOST = 32768, PATTERN = 0xa5, ENTRIES = 15 };
 
 #define RAY -2047, -2047, -300, 2047, 2047, 300
 #define FLOATS -2047.0f / 64, -2047.0f / 64, -300.0f / 64, 2047.0f / 64, 2047.0f / 64, 300.0f / 64
@@ -40,6 +40,11 @@ static void column(void)
     number = fenalukki_column(part, length, RAY, buffer, sizeof buffer);
 }
 
+static void marching_cast(void)
+{
+    number = fenalukki_marching_cast(part, length, RAY, 2052, buffer, sizeof buffer);
+}
+
 static void viewer_first_hit(void)
 {
     number = fenalukki_viewer_first_hit(part, length, FLOATS, 2047);
@@ -58,6 +63,12 @@ static void first_hit_counted(void)
 static void column_counted(void)
 {
     number = fenalukki_column_counted(part, length, RAY, buffer, sizeof buffer, totals);
+}
+
+static void marching_cast_counted(void)
+{
+    number = fenalukki_marching_cast_counted(part, length, RAY, 2052, buffer, sizeof buffer,
+                                             totals);
 }
 
 static void viewer_first_hit_counted(void)
@@ -98,10 +109,12 @@ static struct {
     {"full cast", full_cast, 0},
     {"first hit", first_hit, 0},
     {"column", column, 0},
+    {"marching cast", marching_cast, 0},
     {"viewer's first hit", viewer_first_hit, 0},
     {"full cast counted", full_cast_counted, 0},
     {"first hit counted", first_hit_counted, 0},
     {"column counted", column_counted, 0},
+    {"marching cast counted", marching_cast_counted, 0},
     {"viewer's first hit counted", viewer_first_hit_counted, 0},
     {"check of a file", check, 0},
     {"bounds at a place", place_bounds, 0},

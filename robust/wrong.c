@@ -24,6 +24,8 @@ uint32_t __real_fenalukki_full_cast(FILE_BYTES, ENDS, uint32_t budget, uint8_t *
                                     size_t marks_len);
 uint64_t __real_fenalukki_first_hit(FILE_BYTES, ENDS, uint32_t budget);
 uint32_t __real_fenalukki_column(FILE_BYTES, ENDS, uint8_t *column, size_t column_len);
+uint32_t __real_fenalukki_marching_cast(FILE_BYTES, ENDS, uint32_t budget, uint8_t *marks,
+                                        size_t marks_len);
 uint64_t __real_fenalukki_viewer_first_hit(FILE_BYTES, FLOATS, uint32_t budget);
 uint32_t __real_fenalukki_full_cast_counted(FILE_BYTES, ENDS, uint32_t budget, uint8_t *marks,
                                             size_t marks_len, uint64_t *totals);
@@ -31,6 +33,9 @@ uint64_t __real_fenalukki_first_hit_counted(FILE_BYTES, ENDS, uint32_t budget,
                                             uint64_t *totals);
 uint32_t __real_fenalukki_column_counted(FILE_BYTES, ENDS, uint8_t *column, size_t column_len,
                                          uint64_t *totals);
+uint32_t __real_fenalukki_marching_cast_counted(FILE_BYTES, ENDS, uint32_t budget,
+                                                uint8_t *marks, size_t marks_len,
+                                                uint64_t *totals);
 uint64_t __real_fenalukki_viewer_first_hit_counted(FILE_BYTES, FLOATS, uint32_t budget,
                                                    uint64_t *totals);
 uint64_t __real_fenalukki_check(FILE_BYTES);
@@ -59,6 +64,16 @@ static size_t told_file(size_t length)
 static size_t told_room(size_t length)
 {
     return wrong("tells-more-room") ? length + 1 : length;
+}
+
+static size_t told_march_file(size_t length)
+{
+    return wrong("tells-longer-file-for-march") ? length + 1 : told_file(length);
+}
+
+static size_t told_march_room(size_t length)
+{
+    return wrong("tells-more-room-for-march") ? length + 1 : told_room(length);
 }
 
 static size_t told_numbers(size_t count)
@@ -405,6 +420,129 @@ uint64_t __wrap_fenalukki_viewer_first_hit_counted(FILE_BYTES, FLOATS, uint32_t 
     touch_totals(number, casts, totals);
     if (wrong("counted-clear-as-spent") && number >> 32 == 3)
         number += UINT64_C(1) << 32;
+    return number;
+}
+
+/* A budget told to a march: passed by one, or no more than the most probes of
+ * the other casts. */
+static uint32_t told_budget(uint32_t budget)
+{
+    if (wrong("march-passes-budget") && budget < UINT32_MAX)
+        return budget + 1;
+    return wrong("march-at-most-2047") && budget > 2047 ? 2047 : budget;
+}
+
+/* A copy of the first bytes of a buffer, as they are before a march. */
+static const uint8_t *copied(const uint8_t *buffer, size_t length)
+{
+    static uint8_t copy[1024];
+
+    if (length > 0)
+        memcpy(copy, buffer, length < sizeof copy ? length : sizeof copy);
+    return copy;
+}
+
+/* The number of a full cast in a march's place. */
+static uint32_t by_halving(FILE_BYTES, ENDS, uint32_t budget)
+{
+    static uint8_t marks[1024];
+
+    return __real_fenalukki_full_cast(file, file_len, RAY, budget, marks, sizeof marks);
+}
+
+/* Writes what a march should not write of its buffer, or another mark. */
+static void mismarch(uint32_t number, uint8_t *marks, size_t marks_len, const uint8_t *before)
+{
+    int refused = number < 65536;
+    uint8_t *crossing = refused ? NULL : memchr(marks, 1, 1024);
+    uint8_t *reached = refused ? NULL : memchr(marks, 3, 1024);
+    size_t tick = reached == NULL ? 1024 : (size_t)(reached - marks);
+
+    if (wrong("march-past-room") && marks_len > 0)
+        marks[marks_len] = 0;
+    if (wrong("march-past-need") && !refused && marks_len > 1024)
+        marks[1024] = 0;
+    if (wrong("march-though-refused") && refused && marks_len > 0)
+        marks[0] = 3;
+    if (wrong("march-past-tick-reached") && reached != NULL)
+        *reached = 0;
+    if (wrong("march-leaves-ticks") && reached != NULL)
+        memcpy(reached, before + tick, 1024 - tick);
+    if (wrong("march-crossing-as-empty") && crossing != NULL)
+        *crossing = 0;
+}
+
+/* A march's number that is wrong. */
+static uint32_t mismarched(size_t marks_len, uint32_t budget, uint32_t number)
+{
+    int complete = number >= 65536 && number < 131072;
+
+    if (wrong("march-probe-too-many") && number >= 65536)
+        return number + 1;
+    if (wrong("march-spent-as-complete") && number >= 131072)
+        return number - 65536;
+    if (wrong("march-spent-at-end") && complete && number - 65536 == budget)
+        return number + 65536;
+    if (wrong("march-asks-14-first") && number < 14 && marks_len < 1024)
+        return 14;
+    if (wrong("march-passes-room-1023") && number == 14 && marks_len == 1023)
+        return COMPLETE;
+    if (wrong("march-refuses-room-1024") && number >= 65536 && marks_len == 1024)
+        return 14;
+    return number;
+}
+
+uint32_t __wrap_fenalukki_marching_cast(FILE_BYTES, ENDS, uint32_t budget, uint8_t *marks,
+                                        size_t marks_len)
+{
+    const uint8_t *before = copied(marks, marks_len);
+    uint32_t number;
+
+    if (wrong("march-by-halving"))
+        return __real_fenalukki_full_cast(file, file_len, RAY, budget, marks, marks_len);
+    if (wrong("march-from-b"))
+        return __real_fenalukki_marching_cast(file, file_len, bx, by, bz, ax, ay, az, budget,
+                                              marks, marks_len);
+    number = __real_fenalukki_marching_cast(file, told_march_file(file_len), RAY,
+                                            told_budget(budget), marks,
+                                            told_march_room(marks_len));
+    touch_file(file, file_len);
+    touch_buffer(number, marks, marks_len, 1024);
+    mismarch(number, marks, marks_len, before);
+    if (wrong("march-reports-halving") && number >= 65536)
+        return by_halving(file, file_len, RAY, budget);
+    return mismarched(marks_len, budget, number);
+}
+
+/* Counts a march otherwise than it did, from the totals before it. */
+static void miscount_march(uint32_t number, const uint64_t *before, uint64_t *totals)
+{
+    int refused = number < 65536;
+
+    if (wrong("march-not-counted") && !refused)
+        memcpy(totals, before, 3 * sizeof *totals);
+    if (wrong("march-counted-twice") && !refused)
+        totals[1] += number & 0xffff;
+    if (wrong("refused-march-not-counted") && refused)
+        totals[2] = before[2];
+}
+
+uint32_t __wrap_fenalukki_marching_cast_counted(FILE_BYTES, ENDS, uint32_t budget,
+                                                uint8_t *marks, size_t marks_len,
+                                                uint64_t *totals)
+{
+    uint64_t before[3] = {totals[0], totals[1], totals[2]};
+    uint32_t number = __real_fenalukki_marching_cast_counted(
+        file, told_file(file_len), RAY, budget, marks, told_room(marks_len), totals);
+
+    touch_file(file, file_len);
+    touch_buffer(number, marks, marks_len, 1024);
+    touch_totals(number, before[0], totals);
+    miscount_march(number, before, totals);
+    if (wrong("march-counted-by-halving") && number >= 65536)
+        totals[1] = before[1] + (by_halving(file, file_len, RAY, budget) & 0xffff);
+    if (wrong("counted-march-mark") && number >= 65536)
+        marks[1023] ^= 1;
     return number;
 }
 

@@ -1,8 +1,9 @@
-/* A host: slice PART PICTURE.png [AXIS PLACE] casts rays through the part file
- * PART and writes a picture of it: a plane at right angles to an axis, or a
- * depth image. All arithmetic is in whole numbers, so the pictures are the same
- * on every machine. Lengths are in steps of 1/64 mm, coordinates -2,047 to
- * 2,047. */
+/* A host: slice PART PICTURE.png [AXIS PLACE [march]] casts rays through the part
+ * file PART and writes a picture: a plane at right angles to an axis, a depth
+ * image, or where along a plane's rays a marching cast takes fewer probes than a
+ * full cast and where more. All arithmetic is in whole numbers, so the pictures
+ * are the same on every machine. Lengths are in steps of 1/64 mm, coordinates
+ * -2,047 to 2,047. */
 #include "fenalukki.h"
 #include "png.h"
 
@@ -12,6 +13,7 @@
 
 /* An answer below this is a refusal number. */
 enum { FIRST_ANSWER = 65536 };
+enum { WHITE = 255, BLACK = 0 };
 
 struct part {
     uint8_t bytes[65537]; /* one more than a part file has, so a longer one is refused */
@@ -93,16 +95,22 @@ static unsigned long reverse_row(uint8_t *row)
     return ones;
 }
 
+/* The ends of a ray along the rows, at a height of the picture. */
+static void set_ends(const struct plane *plane, int32_t height, int32_t a[3], int32_t b[3])
+{
+    a[plane->axis] = b[plane->axis] = plane->place;
+    a[across_rows[plane->axis]] = b[across_rows[plane->axis]] = height;
+    a[along_rows[plane->axis]] = -PLANE_END;
+    b[along_rows[plane->axis]] = PLANE_END;
+}
+
 /* Answers the number of the row's column. */
 static uint32_t cast_row(const struct part *part, const struct plane *plane, int row,
                          uint8_t *bits)
 {
     int32_t a[3], b[3];
 
-    a[plane->axis] = b[plane->axis] = plane->place;
-    a[across_rows[plane->axis]] = b[across_rows[plane->axis]] = PLANE_END - 1 - 2 * row;
-    a[along_rows[plane->axis]] = -PLANE_END;
-    b[along_rows[plane->axis]] = PLANE_END;
+    set_ends(plane, PLANE_END - 1 - 2 * row, a, b);
     return fenalukki_column(part->bytes, part->length, a[0], a[1], a[2], b[0], b[1], b[2],
                             bits, ROW_BYTES);
 }
@@ -130,12 +138,149 @@ static int write_plane(const struct part *part, const struct plane *plane, const
     return 1;
 }
 
+/* A full and a marching cast side by side: on rays along the plane's rows, one for
+ * each band of rows, the fewest probes with which each knows a tick's mark. Where
+ * both take as many the tick is grey; it is the brighter the fewer the march
+ * takes and the darker the fewer the full cast takes, by SHADES for a probe. */
+
+enum { TICKS = FENALUKKI_TICKS, BAND = 4, BANDS = PLANE_ROWS / BAND };
+enum { FULL, MARCHING, CASTS };
+enum { GREY = 128, SHADES = 6 };
+
+typedef uint32_t cast_entry(const uint8_t *file, size_t file_len, int32_t ax, int32_t ay,
+                            int32_t az, int32_t bx, int32_t by, int32_t bz, uint32_t budget,
+                            uint8_t *marks, size_t marks_len);
+
+static cast_entry *const cast_entries[CASTS] = {fenalukki_full_cast, fenalukki_marching_cast};
+static const char *const cast_names[CASTS] = {"full cast", "marching cast"};
+
+/* Of a cast on one ray. */
+struct known {
+    uint8_t marks[TICKS];
+    uint32_t probes[TICKS]; /* the fewest with which each mark is known */
+    uint32_t all;           /* those of a complete cast */
+};
+
+/* Of a cast on all rays: its probes, and on how many rays and at how many ticks
+ * it takes fewer than the other. */
+struct sums {
+    unsigned long probes, rays, ticks;
+};
+
+/* Notes the probes for the ticks from one on that are known now. Answers the tick
+ * reached. */
+static int note_probes(struct known *known, int tick)
+{
+    int reached = fenalukki_tick_reached(known->marks);
+
+    for (; tick < reached; tick++)
+        known->probes[tick] = known->all;
+    return reached;
+}
+
+/* Casts with budgets from 1 on until the cast is complete. Answers its number, or
+ * a refusal number. */
+static uint32_t find_known(const struct part *part, cast_entry *cast, const int32_t a[3],
+                           const int32_t b[3], struct known *known)
+{
+    uint32_t answer;
+    int tick = 0;
+
+    known->all = 0;
+    do {
+        known->all++;
+        answer = cast(part->bytes, part->length, a[0], a[1], a[2], b[0], b[1], b[2], known->all,
+                      known->marks, sizeof known->marks);
+        if (answer >= FIRST_ANSWER)
+            tick = note_probes(known, tick);
+    } while (fenalukki_is_spent(answer));
+    return answer;
+}
+
+static uint8_t shade_of(int fewer)
+{
+    int shade = GREY + SHADES * fewer;
+
+    return (uint8_t)(shade < BLACK ? BLACK : shade > WHITE ? WHITE : shade);
+}
+
+/* Shades a row of ticks, and counts. */
+static void shade_known(const struct known known[CASTS], uint8_t *row, struct sums sums[CASTS])
+{
+    int tick;
+
+    for (tick = 0; tick < TICKS; tick++) {
+        int fewer = (int)known[FULL].probes[tick] - (int)known[MARCHING].probes[tick];
+
+        row[tick] = shade_of(fewer);
+        sums[FULL].ticks += fewer < 0;
+        sums[MARCHING].ticks += fewer > 0;
+    }
+    sums[FULL].rays += known[FULL].all < known[MARCHING].all;
+    sums[MARCHING].rays += known[MARCHING].all < known[FULL].all;
+}
+
+/* Makes both casts on the ray in a band's middle; returns 1 unless one is refused or
+ * their marks differ. */
+static int cast_band(const struct part *part, const struct plane *plane, int band,
+                     struct known known[CASTS], struct sums sums[CASTS])
+{
+    int32_t a[3], b[3];
+    int i;
+
+    set_ends(plane, PLANE_END - BAND * (2 * band + 1), a, b);
+    for (i = 0; i < CASTS; i++) {
+        uint32_t answer = find_known(part, cast_entries[i], a, b, known + i);
+
+        if (answer < FIRST_ANSWER) {
+            print_refusal(cast_names[i], answer);
+            return 0;
+        }
+        sums[i].probes += known[i].all;
+    }
+    if (memcmp(known[FULL].marks, known[MARCHING].marks, TICKS) == 0)
+        return 1;
+    fprintf(stderr, "slice: the marks of the two casts differ\n");
+    return 0;
+}
+
+static void print_sums(const struct sums sums[CASTS])
+{
+    int i;
+
+    for (i = 0; i < CASTS; i++)
+        printf("; %ss: %lu probes, fewer on %lu rays and to %lu ticks", cast_names[i],
+               sums[i].probes, sums[i].rays, sums[i].ticks);
+    printf("\n");
+}
+
+static int write_march(const struct part *part, const struct plane *plane, const char *path)
+{
+    static uint8_t rows[PLANE_ROWS][TICKS];
+    static struct known known[CASTS];
+    struct sums sums[CASTS] = {{0, 0, 0}, {0, 0, 0}};
+    int i;
+
+    for (i = 0; i < PLANE_ROWS; i++) {
+        if (i % BAND != 0)
+            memcpy(rows[i], rows[i - 1], TICKS);
+        else if (cast_band(part, plane, i / BAND, known, sums))
+            shade_known(known, rows[i], sums);
+        else
+            return 0;
+    }
+    if (!write_picture(path, TICKS, PLANE_ROWS, 8, rows[0]))
+        return 0;
+    printf("%s: plane %c %ld, %d rays", path, axes[plane->axis], (long)plane->place, BANDS);
+    print_sums(sums);
+    return 1;
+}
+
 /* The depth image: the first hits of parallel rays, seen from above and from
  * one side. The nearest hit is white, the farthest dark grey, clear black. */
 
 enum { WIDTH = 480, HEIGHT = 400, PIXEL = 5, PIXELS = WIDTH * HEIGHT };
-enum { BUDGET = 2047, ANSWER_CLEAR = 3, NO_HIT = 1024 };
-enum { WHITE = 255, DARK = 40, BLACK = 0 };
+enum { BUDGET = 2047, ANSWER_CLEAR = 3, NO_HIT = 1024, DARK = 40 };
 
 /* The picture's axes, AXIS long and at right angles to each other. A ray begins
  * REACH * away before the picture's plane and ends as far behind it. */
@@ -254,21 +399,35 @@ static int read_plane(char **words, struct plane *plane)
     return read_number(words[1], &plane->place);
 }
 
+static int print_usage(void)
+{
+    fprintf(stderr,
+            "usage: slice PART PICTURE.png [AXIS PLACE [march]]\n"
+            "With AXIS x, y or z: the plane at PLACE on it, white where a tick is inside or\n"
+            "crossing; with march: how many probes fewer (brighter) or more (darker) a\n"
+            "marching cast takes to each tick than a full cast. Without: the part seen\n"
+            "obliquely, the brighter the nearer.\n"
+            "Status 1 where a call is refused, with its number, or a file cannot be\n"
+            "read or written.\n");
+    return 0;
+}
+
 int main(int argc, char **argv)
 {
     static struct part part;
     struct plane plane = {0, 0};
+    int marches = argc == 6 && strcmp(argv[5], "march") == 0;
+    int written;
 
-    if (argc != 3 && !(argc == 5 && read_plane(argv + 3, &plane))) {
-        fprintf(stderr,
-                "usage: slice PART PICTURE.png [AXIS PLACE]\n"
-                "With AXIS x, y or z: the plane at PLACE on it, white where a tick is inside or\n"
-                "crossing. Without: the part seen obliquely, the brighter the nearer.\n"
-                "Status 1 where a call is refused, with its number, or a file cannot be\n"
-                "read or written.\n");
-        return 1;
-    }
-    if (!read_part(argv[1], &part))
-        return 1;
-    return !(argc == 5 ? write_plane(&part, &plane, argv[2]) : write_depth(&part, argv[2]));
+    if (argc != 3 && !((argc == 5 || marches) && read_plane(argv + 3, &plane)))
+        written = print_usage();
+    else if (!read_part(argv[1], &part))
+        written = 0;
+    else if (marches)
+        written = write_march(&part, &plane, argv[2]);
+    else if (argc == 5)
+        written = write_plane(&part, &plane, argv[2]);
+    else
+        written = write_depth(&part, argv[2]);
+    return !written;
 }

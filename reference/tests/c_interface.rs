@@ -8,7 +8,9 @@ mod prototypes;
 
 use prototypes::{c_entries, rattle_entries, Entry};
 use reference::cast::{self, Column, FirstHit, FullCast, Mark};
+use reference::field::Ray;
 use reference::generate::{self, Shape, SplitMix64};
+use reference::march::marching_cast;
 use reference::part::{self, FileBuilder};
 use std::collections::{BTreeMap, BTreeSet};
 use std::fs;
@@ -79,7 +81,7 @@ fn header_entries() -> BTreeMap<String, Entry> {
 fn the_header_declares_what_the_crate_exports() {
     let exported = rattle_entries(&read("crates/fenalukki/src/lib.rt"));
     assert_eq!(header_entries(), exported);
-    assert_eq!(exported.len(), 13);
+    assert_eq!(exported.len(), 15);
 }
 
 /// A header that differs in one word is told apart.
@@ -90,6 +92,7 @@ fn a_drift_of_the_header_is_seen() {
     for (from, to) in [
         ("uint64_t fenalukki_check(", "uint32_t fenalukki_check("),
         ("fenalukki_column_counted(", "fenalukki_columns_counted("),
+        ("fenalukki_marching_cast(", "fenalukki_march_cast("),
         (
             "int32_t x, int32_t y, int32_t z",
             "int32_t y, int32_t x, int32_t z",
@@ -133,7 +136,7 @@ fn totals_of_64_bits() {
         assert_eq!(entry.parameters.contains(&totals), lent, "{name}");
     }
     let places: Vec<_> = header.match_indices("uint64_t totals[3])").collect();
-    assert_eq!(places.len(), 5);
+    assert_eq!(places.len(), 6);
     for (at, _) in places {
         let mut drifted = header.clone();
         drifted.replace_range(at..at + 8, "uint32_t");
@@ -230,6 +233,7 @@ fn the_names_of_sizes_and_marks() {
     assert_eq!(named("MARKS_BYTES"), cast::TICKS);
     assert_eq!(named("COLUMN_BYTES") as usize, cast::COLUMN_BYTES);
     assert_eq!(named("ENOUGH"), 2 * cast::TICKS - 1);
+    assert_eq!(named("MARCHING_ENOUGH"), 2 * cast::TICKS + 4);
     assert_eq!(named("RECORD_BYTES") as usize, part::RECORD);
     assert_eq!(named("TRAILER_BYTES") as usize, part::RECORD);
     let marks = [Mark::Empty, Mark::Crossing, Mark::Inside].map(Mark::byte);
@@ -355,7 +359,7 @@ fn write(end: u32) -> Reading {
 fn readings() -> Vec<Reading> {
     let mut all: Vec<Reading> = (1..=18).map(refused).collect();
     all.extend([24, 25, 255, 256, 6144, 65_535, 65_536].map(write));
-    for probes in [0, 1, 15, 255, 256, 2046, 2047] {
+    for probes in [0, 1, 15, 255, 256, 2046, 2047, 2048, 2052] {
         all.extend(casts(probes));
         all.extend(
             [0, 1, 330, 512, 1023]
@@ -558,7 +562,7 @@ fn the_saved_record_of_the_tour() {
         "11 bytes: refused 18, the saved record is not exactly 12 bytes long",
         &format!("  the totals: {after}"),
     ];
-    let shown = section(&printed, "\n11. A saved record\n", "\n\n12. ");
+    let shown = section(&printed, "\n12. A saved record\n", "\n\n13. ");
     assert_eq!(shown, lines.join("\n"));
 }
 
@@ -584,9 +588,9 @@ fn a_tour_of_a_refused_part() {
     let edits = [(end, &no_iso[..]), (check, "show_check(&part);")];
     let output = edited_tour("spoiled_tour", &edits);
     let sections: Vec<&str> = output.split("\n\n").collect();
-    assert_eq!(sections.len(), 13);
-    let counts = [1, 1, 1, 1, 3, 4, 3, 4, 6];
-    for (section, refused) in sections[1..10].iter().zip(counts) {
+    assert_eq!(sections.len(), 14);
+    let counts = [1, 1, 1, 1, 3, 3, 4, 3, 4, 6];
+    for (section, refused) in sections[1..11].iter().zip(counts) {
         let lines = section.lines().rev().take(refused);
         let said = lines.filter(|line| line.contains("refused 5, ")).count();
         assert_eq!(said, refused, "{section}");
@@ -623,7 +627,7 @@ fn worked_cut(format: &str) -> &str {
 
 /// What the tour prints of cut, and of lesser.
 fn overlaps(tour: &str) -> [&str; 2] {
-    let both = section(tour, "\n\n9. ", "\n\n10. ");
+    let both = section(tour, "\n\n10. ", "\n\n11. ");
     let (cut, lesser) = both.split_once("\nlesser, ").expect("both");
     [cut, lesser]
 }
@@ -705,6 +709,24 @@ fn worked_file(format: &str) -> Vec<u8> {
         .flat_map(|line| line[3..].split_whitespace().take(12));
     let bytes = words.map(|word| u8::from_str_radix(word, 16).expect("a byte"));
     bytes.collect()
+}
+
+/// The tour's marching casts of the worked file are the reference's.
+#[test]
+fn the_marching_casts_of_the_tour() {
+    let (format, tour) = (read("docs/FORMAT.md"), read("examples/tour.out"));
+    let shown = section(&tour, "\n\n6. Marching casts", "\n\n7. ");
+    let (a, b) = ([0, 1024, 0], [0, -1024, 0]);
+    for budget in [2052, 30, 1] {
+        let file = worked_file(&format);
+        let answer = match marching_cast(&file, &Ray { a, b }, budget, &mut [0; 1024]) {
+            FullCast::Complete { probes } => format!("{probes} probes, complete"),
+            FullCast::Spent { probes, tick } => format!("{probes} probes, spent at tick {tick}"),
+            FullCast::Refused(number) => panic!("refused {number}"),
+        };
+        let line = format!("\nbudget {budget}: {answer}\n");
+        assert!(shown.contains(&line), "{line}");
+    }
 }
 
 /// The bytes that the document shows, as the reference reads them, and as its commands print them.

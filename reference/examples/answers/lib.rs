@@ -6,6 +6,7 @@ mod expected;
 
 use reference::cast;
 use reference::field::Ray;
+use reference::march;
 use reference::totals::Totals;
 use reference::view::ViewRay;
 use reference::write::MOST_NUMBERS;
@@ -58,6 +59,30 @@ pub unsafe extern "C" fn reference_full_cast(
     let (a, b) = ([ax, ay, az], [bx, by, bz]);
     let marks = bytes_mut(marks, marks_len);
     cast::full_cast(bytes(file, file_len), &Ray { a, b }, budget, marks).number()
+}
+
+/// The number of a marching cast.
+///
+/// # Safety
+///
+/// As the header says of `fenalukki_marching_cast`.
+#[no_mangle]
+pub unsafe extern "C" fn reference_marching_cast(
+    file: *const u8,
+    file_len: usize,
+    ax: i32,
+    ay: i32,
+    az: i32,
+    bx: i32,
+    by: i32,
+    bz: i32,
+    budget: u32,
+    marks: *mut u8,
+    marks_len: usize,
+) -> u32 {
+    let (a, b) = ([ax, ay, az], [bx, by, bz]);
+    let marks = bytes_mut(marks, marks_len);
+    march::marching_cast(bytes(file, file_len), &Ray { a, b }, budget, marks).number()
 }
 
 /// The number of a first hit.

@@ -5,7 +5,7 @@ use crate::drawings::{self, placed, Drawing};
 use crate::floats::changed;
 use crate::request::{casting, is_counted, need, six};
 use crate::request::{Request, BOUNDS, CHECK, COLUMN, COUNTED, FIRST_HIT, FULL_CAST};
-use crate::request::{READ, RESTORE, VIEW, WRITE};
+use crate::request::{MARCH, READ, RESTORE, VIEW, WRITE};
 use crate::requests;
 use reference::generate::{cancelling_or_bored, part_of_form, SplitMix64, FORMS};
 use reference::generate::{saved_record, totals};
@@ -14,19 +14,22 @@ use reference::totals::{Totals, CEILING, SAVED_BYTES};
 use reference::view::in_millimetres;
 
 /// The calls, each as often as it is drawn.
-const DRAWN: [u8; 21] = [
-    FULL_CAST,
+const DRAWN: [u8; 24] = [
     FULL_CAST,
     FULL_CAST,
     FIRST_HIT,
     FIRST_HIT,
     COLUMN,
     COLUMN,
+    MARCH,
+    MARCH,
     VIEW,
     VIEW,
     FULL_CAST + COUNTED,
     FIRST_HIT + COUNTED,
     COLUMN + COUNTED,
+    MARCH + COUNTED,
+    VIEW + COUNTED,
     VIEW + COUNTED,
     CHECK,
     BOUNDS,

@@ -1,6 +1,6 @@
 //! What the eighteen questions limit, and the limits.
 
-use crate::request::{casting, BOUNDS, COLUMN, FULL_CAST, RESTORE, VIEW, WRITE};
+use crate::request::{casting, BOUNDS, COLUMN, FULL_CAST, MARCH, RESTORE, VIEW, WRITE};
 use std::ops::RangeInclusive;
 
 /// A number of a request that a question limits, or several of one kind; also
@@ -137,7 +137,7 @@ pub const ALL: [Limited; 35] = [
     one(What::Ends, 13, "the ends", 1..=MOST, OF_ENDS)
         .asked_by(|call| casting(call).is_some()),
     one(What::MarksRoom, 14, "the room for marks", 1024..=MOST, &[[1024, 1023]])
-        .asked_by(|call| casting(call) == Some(FULL_CAST)),
+        .asked_by(|call| matches!(casting(call), Some(FULL_CAST | MARCH))),
     one(What::ColumnRoom, 14, "the room for a column", 128..=MOST, &[[128, 127]])
         .asked_by(|call| casting(call) == Some(COLUMN)),
     one(What::FloatSteps, 15, "the 64-folds of the six floats", REACH, OF_REACH).members(6)

@@ -2,8 +2,8 @@
 //! each pair the first is accepted, the second refused.
 
 use crate::drawn::lent;
-use crate::request::{casting, need, six};
-use crate::request::{Request, BOUNDS, CALLS, COLUMN, FULL_CAST, RESTORE, VIEW, WRITE};
+use crate::request::{casting, need, six, Request, CALLS};
+use crate::request::{BOUNDS, COLUMN, FULL_CAST, MARCH, RESTORE, VIEW, WRITE};
 use crate::write_limits::writes;
 use reference::generate::SplitMix64;
 use reference::part::{operator_record, point_record, FileBuilder};
@@ -221,7 +221,7 @@ fn held() -> Files {
 }
 
 /// The ray as the call is handed it; a place is its A.
-fn of_steps(call: u8, a: [i32; 3], b: [i32; 3]) -> [u32; 6] {
+pub fn of_steps(call: u8, a: [i32; 3], b: [i32; 3]) -> [u32; 6] {
     match casting(call) {
         Some(VIEW) => six(a, b, |c| (c as f32 / 64.0).to_bits()),
         Some(_) => six(a, b, |c| c as u32),
@@ -293,7 +293,7 @@ fn floats() -> Vec<[[u32; 6]; 2]> {
 /// Question 14.
 fn rooms(call: u8) -> Vec<[usize; 2]> {
     match casting(call) {
-        Some(FULL_CAST | COLUMN) => vec![[need(call), need(call) - 1]],
+        Some(FULL_CAST | MARCH | COLUMN) => vec![[need(call), need(call) - 1]],
         _ => Vec::new(),
     }
 }

@@ -2,7 +2,7 @@
 //! and which are wrong.
 
 use crate::limited::What;
-use crate::request::{casting, Request, BOUNDS, COLUMN, FULL_CAST, RESTORE, VIEW, WRITE};
+use crate::request::{casting, Request, BOUNDS, COLUMN, FULL_CAST, MARCH, RESTORE, VIEW, WRITE};
 use reference::part::{FILE_MARK, RECORD};
 use reference::write::NODE_NUMBERS;
 
@@ -41,7 +41,7 @@ impl Look {
         }
         let room = request.room as i64;
         match casting(request.call) {
-            Some(FULL_CAST) => self.see(What::MarksRoom, 0, room),
+            Some(FULL_CAST | MARCH) => self.see(What::MarksRoom, 0, room),
             Some(COLUMN) => self.see(What::ColumnRoom, 0, room),
             _ => {}
         }

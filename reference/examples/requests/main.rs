@@ -1,7 +1,7 @@
 //! A stream of requests with the reference's answers, for `robust/replay.c`:
-//! those at the limits of the questions, then N on damaged files, drawings and
-//! saved records, and one on a whole file, drawing or record after each seven of
-//! them.
+//! those at the limits of the questions, casts of the most probes, then N on
+//! damaged files, drawings and saved records, and one on a whole file, drawing or
+//! record after each seven of them.
 //!
 //!     cargo run --release --offline --example requests -- N SEED > STREAM
 //!
@@ -15,7 +15,7 @@
 //!
 //! | At | Bytes | What |
 //! |----|-------|------|
-//! | 0 | 1 | call: 0 full cast, 1 first hit, 2 column, 3 viewer's first hit; 4 to 7 counted; 8 check; 9 bounds; 10 write; 11 read; 12 saved record |
+//! | 0 | 1 | the call |
 //! | 1 | 1 | 1 if the file, the drawing or the saved record is damaged |
 //! | 2 | 2 | 0 |
 //! | 4 | 4 | the bytes of the file, of the numbers or of the saved record |
@@ -27,6 +27,10 @@
 //! | 72 | 24 | the totals after |
 //! | 96 | 4 | how many bytes the call writes |
 //! | 100 | 8 | the place of a write; the bytes that the call writes begin there |
+//!
+//! The calls are 0 full cast, 1 first hit, 2 column, 3 marching cast, 4 viewer's
+//! first hit; 5 to 9 the same, counted; 10 check, 11 bounds, 12 write, 13 read,
+//! 14 saved record.
 
 mod damaged;
 #[path = "../../tests/common/drawings.rs"]
@@ -38,6 +42,7 @@ mod expected;
 mod floats;
 mod limited;
 mod limits;
+mod longest;
 mod look;
 mod reached;
 mod request;
@@ -47,6 +52,7 @@ mod sides;
 mod write_limits;
 
 use drawn::drawn;
+use longest::longest;
 use reached::Reached;
 use reference::generate::SplitMix64;
 use request::Request;
@@ -71,9 +77,8 @@ impl<W: Write> Stream<W> {
 
     /// Every request of the stream.
     fn put_all(&mut self, random: &mut SplitMix64, damaged: u64) -> io::Result<()> {
-        limits::at_limits(random)
-            .iter()
-            .try_for_each(|request| self.put(request))?;
+        let first = [limits::at_limits(random), longest(random)].concat();
+        first.iter().try_for_each(|request| self.put(request))?;
         for i in 1..=damaged {
             self.put(&drawn(random, true))?;
             if i % 7 == 0 {

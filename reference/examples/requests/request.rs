@@ -5,25 +5,29 @@ use crate::expected::{answered, bounds_number, check_number, viewed};
 use crate::expected::{read_number, restore_number, write_number};
 use reference::cast;
 use reference::field::Ray;
+use reference::march::marching_cast;
 use reference::totals::Totals;
 use reference::view::{viewer_first_hit, ViewRay};
 use reference::write::{MOST_NUMBERS, NODE_NUMBERS};
 use std::io::{self, Write};
 use std::ops::Range;
 
-/// The calls; a counted one is a casting call's number and `COUNTED`.
+/// The casting calls; those on a ray in steps by the numbers of `answered`.
 pub const FULL_CAST: u8 = 0;
 pub const FIRST_HIT: u8 = 1;
 pub const COLUMN: u8 = 2;
-pub const VIEW: u8 = 3;
-pub const COUNTED: u8 = 4;
-pub const CHECK: u8 = 8;
-pub const BOUNDS: u8 = 9;
-pub const WRITE: u8 = 10;
-pub const READ: u8 = 11;
-pub const RESTORE: u8 = 12;
+pub const MARCH: u8 = 3;
+pub const VIEW: u8 = 4;
+/// How many casting calls there are; a counted one is its number and this.
+pub const COUNTED: u8 = 5;
+/// The other calls.
+pub const CHECK: u8 = 2 * COUNTED;
+pub const BOUNDS: u8 = CHECK + 1;
+pub const WRITE: u8 = CHECK + 2;
+pub const READ: u8 = CHECK + 3;
+pub const RESTORE: u8 = CHECK + 4;
 /// How many calls there are.
-pub const CALLS: usize = 13;
+pub const CALLS: usize = 15;
 
 /// The least number that is no refusal's.
 const ACCEPTED: u64 = 65_536;
@@ -66,7 +70,7 @@ pub fn is_counted(call: u8) -> bool {
 /// The most bytes that a call writes, unless it is a write.
 pub fn need(call: u8) -> usize {
     match (casting(call), call) {
-        (Some(FULL_CAST), _) => cast::TICKS as usize,
+        (Some(FULL_CAST | MARCH), _) => cast::TICKS as usize,
         (Some(COLUMN), _) => cast::COLUMN_BYTES,
         (_, BOUNDS) => 16,
         (_, READ) => NUMBER_BYTES * MOST_NUMBERS,
@@ -101,10 +105,12 @@ impl Request {
     /// The probes that the call needs; none if it is refused whatever its room,
     /// or makes none.
     pub fn probes(&self) -> Option<u32> {
+        let (file, ray) = (&self.file, self.steps());
         match casting(self.call)? {
-            FIRST_HIT => cast::first_hit(&self.file, &self.steps(), u32::MAX).probes(),
-            VIEW => viewer_first_hit(&self.file, self.millimetres(), u32::MAX).probes(),
-            _ => cast::column(&self.file, &self.steps(), &mut [0; 128]).probes(),
+            FIRST_HIT => cast::first_hit(file, &ray, u32::MAX).probes(),
+            VIEW => viewer_first_hit(file, self.millimetres(), u32::MAX).probes(),
+            MARCH => marching_cast(file, &ray, u32::MAX, &mut [0; 1024]).probes(),
+            _ => cast::column(file, &ray, &mut [0; 128]).probes(),
         }
     }
 
