@@ -1,7 +1,7 @@
 -- The casting calls (document 01, "Calls") as functions of the file's bytes, the ray, the budget and the lent buffer: what each answers, by the first
 -- no of its questions, and what it leaves in the buffer. What a ray of a solid gives is stated for 2^k ticks; document 01's calls have 2^exponent.
 use Prim.Native.Nat.{ℕ, _^_}
-use mathlib.Core.List.{List, _++_, map}
+use mathlib.Core.List.{List, _++_}
 use lib.ListN.{length, drop}
 use Rattle.record.specs.Questions.{firstNo}
 use Rattle.record.specs.declared.Verdict.{Verdict}
@@ -16,7 +16,7 @@ use Rattle.halving.specs.Halving.{probeCount, spanMarks, walk, handed}
 use Rattle.halving.specs.FirstHit.{hit}
 use Rattle.cast.specs.declared.ColumnAnswer.{ColumnAnswer}
 use Rattle.cast.specs.declared.ColumnAnswer.the-variants as column
-use Rattle.cast.specs.Column.{columnBytes, markBit, packed}
+use Rattle.cast.specs.Column.{columnBytes, bitOf, packed}
 use Rattle.cast.specs.Ticks.{exponent, rayState}
 use Rattle.cast.specs.Questions.{hitQuestions, bufferQuestions}
 
@@ -77,7 +77,7 @@ unfoldable pub columnAnswer : List ℕ → Ray → ℕ → ColumnAnswer
 columnAnswer file ray room = columnAfter (firstNo (bufferQuestions file ray columnBytes room)) (solidOf file) ray
 
 unfoldable pub bitsAfter : Verdict → Solid → Ray → List ℕ → List ℕ
-bitsAfter Yes solid ray lent = packed (map markBit (rayMarks solid ray exponent)) columnBytes ++ drop columnBytes lent
+bitsAfter Yes solid ray lent = packed (bitOf solid ray (2 ^ exponent)) columnBytes ++ drop columnBytes lent
 bitsAfter (No number) solid ray lent = lent
 
 unfoldable pub bitsLeft : List ℕ → Ray → List ℕ → List ℕ

@@ -1,10 +1,20 @@
--- A column (document 01, "Calls"): "bit t mod 8 (lowest is 0) of byte t/8 (rounded down) is 1 if tick t is inside or crossing, else 0".
+-- A column (document 01, "Calls"; document 02, P6): "bit t mod 8 (lowest is 0) of byte t/8 (rounded down) is 1 if tick t is" solid, "else 0". An inside
+-- tick is solid and an empty one is not; "A crossing tick is solid if the low and high bounds at its exact middle add up to at least 2 × iso × 2³²."
 use Prim.Native.Nat.{ℕ, zero, suc, _+_, _*_}
 use mathlib.Core.List.{List, [], _∷_, _++_}
-use mathlib.Core.Bool.{cond, _||_}
-use lib.ListN.{take, drop}
+use mathlib.Core.Bool.{Bool, cond, _&&_, _||_}
 use lib.Dec.{eqb}
-use Rattle.field.specs.Bounds.{crossingMark, insideMark}
+use lib.ListN.{getD}
+use lib.IntN.{ℤ, _+ℤ_}
+use lib.Signed.{leZ}
+use Rattle.field.specs.declared.Ray.{Ray}
+use Rattle.field.specs.declared.Bounds.{Bounds}
+use Rattle.field.specs.Ray.{middle}
+use Rattle.field.specs.Solid.{Solid}
+use Rattle.field.specs.Bounds.{crossingMark, insideMark, notLookedAt, level, treeBounds}
+use Rattle.field.specs.Marks.{markOf}
+use Rattle.bounds.specs.Probe.{preparedBounds}
+use Rattle.halving.specs.declared.Search.{Search}
 use Rattle.cast.specs.declared.ColumnAnswer.{ColumnAnswer}
 use Rattle.cast.specs.declared.ColumnAnswer.the-variants.{Refused, Complete}
 
@@ -12,23 +22,44 @@ use Rattle.cast.specs.declared.ColumnAnswer.the-variants.{Refused, Compl
 abbrev pub columnBytes : ℕ
 columnBytes = 128
 
--- a mark's bit: 1 if it is inside or crossing
-unfoldable pub markBit : ℕ → ℕ
-markBit mark = cond (eqb mark crossingMark || eqb mark insideMark) 1 0
+-- ---- a tick's bit
 
--- the number of some bits, the first one lowest
-unfoldable pub fromBits : List ℕ → ℕ
-fromBits [] = 0
-fromBits (bit ∷ later) = bit + 2 * fromBits later
+-- "the low and high bounds […] add up to at least 2 × iso × 2³²"
+unfoldable pub solidBy : ℕ → Bounds → Bool
+solidBy iso b = leZ (level (2 * iso)) (b .low +ℤ b .high)
 
--- the byte of the eight bits from a place on
-abbrev pub byteAt : List ℕ → ℕ → ℕ
-byteAt bits at = fromBits (take 8 (drop at bits))
+-- so they do at the middle of tick t of T
+unfoldable pub middleSolid : Solid → Ray → ℕ → ℕ → Bool
+middleSolid solid ray T t = solidBy (solid .iso) (treeBounds solid ray (middle t T))
 
--- the first n bytes
-unfoldable pub packed : List ℕ → ℕ → List ℕ
-packed bits zero = []
-packed bits (suc n) = packed bits n ++ byteAt bits (8 * n) ∷ []
+-- the bit of a tick with this mark, by whether its middle is solid
+unfoldable pub tickBit : ℕ → Bool → ℕ
+tickBit mark middle = cond (eqb mark insideMark || (eqb mark crossingMark && middle)) 1 0
+
+-- the bit of tick t of T
+unfoldable pub bitOf : Solid → Ray → ℕ → ℕ → ℕ
+bitOf solid ray T t = tickBit (markOf solid ray T t) (middleSolid solid ray T t)
+
+-- whether the middle of tick t is solid, from the prepared numbers; and the bit of tick t by these and the ticks' marks
+unfoldable pub middleIn : List ℤ → Search → ℕ → Bool
+middleIn l s t = solidBy (s .part .iso) (preparedBounds (s .part) l (middle t (s .ticks)))
+
+unfoldable pub bitIn : List ℤ → Search → List ℕ → ℕ → ℕ
+bitIn l s marks t = tickBit (getD marks t notLookedAt) (middleIn l s t)
+
+-- ---- a column's bytes
+
+-- the number of n ticks' bits, from tick t on, the first one lowest
+unfoldable pub fromBits : (ℕ → ℕ) → ℕ → ℕ → ℕ
+fromBits bit t zero = 0
+fromBits bit t (suc n) = bit t + 2 * fromBits bit (suc t) n
+
+-- the first n bytes, of eight ticks each
+unfoldable pub packed : (ℕ → ℕ) → ℕ → List ℕ
+packed bit zero = []
+packed bit (suc n) = packed bit n ++ fromBits bit (8 * n) 8 ∷ []
+
+-- ---- its answer
 
 -- document 01's number for each case of an answer: "the refusal number or 65,536 + probes"
 unfoldable pub columnNumber : ColumnAnswer → ℕ

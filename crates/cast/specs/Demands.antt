@@ -1,15 +1,17 @@
--- What the casting calls promise beside their equations (demands 2 and 3), of a solid and a ray. What speaks of marks alone holds for any number T of
+-- What the casting calls promise beside their equations (demands 2 and 3; document 02, P6), of a solid and a ray. What speaks of marks alone holds for any number T of
 -- ticks; what speaks of the halvings, for 2^k.
 use mathlib.Core.Path.{_≡_}
 use mathlib.Core.List.{List}
-use Prim.Native.Nat.{ℕ, _/_, _%_, _^_, _≤_, _<_}
+use Prim.Native.Nat.{ℕ, _+_, _*_, _/_, _%_, _^_, _≤_, _<_}
 use lib.ListN.{getD}
+use lib.IntN.{pos}
+use Rattle.exact.specs.Fraction.{Fraction, _over_, Proper, _≼_, _≺_, plus}
 use Rattle.field.specs.declared.Ray.{Ray}
-use Rattle.field.specs.Ray.{tick, Place}
+use Rattle.field.specs.Ray.{tick, middle, Place}
 use Rattle.field.specs.Solid.{Solid}
 use Rattle.field.specs.Field.{fieldAt}
-use Rattle.field.specs.Tolerance.{demanded}
-use Rattle.field.specs.Bounds.{emptyMark, notLookedAt}
+use Rattle.field.specs.Tolerance.{demanded, rounding}
+use Rattle.field.specs.Bounds.{emptyMark, notLookedAt, treeBounds, Encloses}
 use Rattle.field.specs.Marks.{markOf, SoundMark}
 use Rattle.halving.specs.declared.CastAnswer.{CastAnswer}
 use Rattle.halving.specs.declared.CastAnswer.the-variants as cast
@@ -19,9 +21,15 @@ use Rattle.halving.specs.Halving.{castLookedAt}
 use Rattle.halving.specs.FirstHit.{hitLookedAt}
 use Rattle.cast.specs.declared.ColumnAnswer.{ColumnAnswer}
 use Rattle.cast.specs.declared.ColumnAnswer.the-variants as column
-use Rattle.cast.specs.Column.{markBit, columnLookedAt}
+use Rattle.cast.specs.Column.{bitOf, columnLookedAt}
 use Rattle.cast.specs.Ticks.{enough}
 use Rattle.cast.specs.Calls.{rayProbes, rayWalk}
+
+-- what a bit says of the field at a place: solid "is where the field is at least the iso-value", to within a tolerance
+pub record SoundBit (iso bit : ℕ) (field tolerance : Fraction) : Type 0 where
+  pub proper : Proper field × Proper tolerance
+  pub solid : bit ≡ 1 → pos iso over 1 ≼ plus field tolerance
+  pub empty : bit ≡ 0 → field ≺ plus (pos iso over 1) tolerance
 
 module _ (solid : Solid) (ray : Ray) (T : ℕ) where
   -- Demand 3: "this holds at every place, whole or fractional, of every tick looked at", the first `limit` ones
@@ -36,7 +44,16 @@ module _ (solid : Solid) (ray : Ray) (T : ℕ) where
 
   -- the same of a column's bits
   unfoldable pub AloneBits : ℕ → List ℕ → Type 0
-  AloneBits limit bytes = (t : ℕ) → t < limit → getD bytes (t / 8) 0 / 2 ^ (t % 8) % 2 ≡ markBit (markOf solid ray T t)
+  AloneBits limit bytes = (t : ℕ) → t < limit → getD bytes (t / 8) 0 / 2 ^ (t % 8) % 2 ≡ bitOf solid ray T t
+
+  -- the exact field at the middle of tick t: the bounds there enclose it, and the tick's bit is right of it but for the rounding
+  pub record MiddleSays (t : ℕ) : Type 0 where
+    pub encloses : Encloses (treeBounds solid ray (middle t T)) (fieldAt solid ray (2 * t + 1) (2 * T))
+    pub sound : SoundBit (solid .iso) (bitOf solid ray T t) (fieldAt solid ray (2 * t + 1) (2 * T)) (rounding solid)
+
+  -- so it is at the middle of every tick looked at, crossing or not
+  unfoldable pub Middles : ℕ → Type 0
+  Middles limit = (t : ℕ) → t < limit → MiddleSays t
 
   -- every tick from the first on and before `limit` is empty
   unfoldable pub Empty : ℕ → Type 0
@@ -104,3 +121,4 @@ module _ (solid : Solid) (ray : Ray) (k : ℕ) where
     pub alone : AloneBits solid ray (2 ^ k) (columnLookedAt (2 ^ k) answer) after
     pub counted : CountedColumn answer
     pub sound : Sound solid ray (2 ^ k) (columnLookedAt (2 ^ k) answer)
+    pub middles : Middles solid ray (2 ^ k) (columnLookedAt (2 ^ k) answer)

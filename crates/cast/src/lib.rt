@@ -1,12 +1,15 @@
 // Casts of a ray through a part file's tree: full cast, first hit and column, each from a file's bytes to its answer and its bytes
-// (document 01, "Calls", questions 12 to 14).
+// (document 01, "Calls", questions 12 to 14; document 02, P6).
 
+use bounds::level;
+use bounds::tree_bounds;
 use exact::both;
 use field::CROSSING;
 use field::INSIDE;
 use field::NOT_LOOKED_AT;
 use field::Position;
 use field::Ray;
+use field::Span;
 use halving::CastAnswer;
 use halving::HitAnswer;
 use halving::Search;
@@ -16,15 +19,15 @@ use loading::PREPARED;
 use loading::load_ray;
 use part::Checked;
 ghost use mathlib.Core.Path.{_≡_};
-ghost use mathlib.Core.List.{_++_, map};
-ghost use Prim.Native.Nat.{_+_, _*_, _^_, _≤_};
+ghost use mathlib.Core.List.{_++_};
+ghost use Prim.Native.Nat.{_+_, _*_, _^_, _≤_, _<_};
 ghost use lib.ListN.{length, drop};
 ghost use Rattle.field.specs.Solid.{solidOf};
 ghost use Rattle.loading.specs.Loading.{loadedRay};
 ghost use Rattle.halving.specs.Halving.{probeCount, spanMarks, castProbes};
 ghost use Rattle.halving.specs.Search.{Searchable, stateIn};
 ghost use Rattle.cast.specs.Ticks.{exponent, enough};
-ghost use Rattle.cast.specs.Column.{columnBytes, markBit, byteAt, packed};
+ghost use Rattle.cast.specs.Column.{columnBytes, middleIn, tickBit, bitIn, fromBits, packed};
 ghost use Rattle.cast.specs.Questions.{samePosition, endsDiffer, alsoAsked, checkHit, checkBuffer};
 ghost use Rattle.cast.specs.Calls.{fullCast, marksLeft, firstHit, columnAnswer, bitsLeft};
 ghost use Rattle.cast.specs.Demands.{CastDemands, HitDemands, ColumnDemands};
@@ -112,40 +115,65 @@ fn probes_of(answer: CastAnswer) -> u32
 
 // ---- a column's bits
 
-// The bit of a mark: 1 if it is crossing or inside.
-fn mark_bit(mark: u8) -> u8
-    ensures { λ r. ⌜ (r ≡ markBit mark) × (r ≤ 1) ⌝ }
+// Whether the low and high bounds at the middle of tick t add up to at least twice the iso-value's level. No probe is counted for them.
+fn middle_solid(prepared: &[i64], s: Search, t: usize) -> bool
+    requires { ⌜ Searchable (now prepared) s ⌝ }
+    requires { ⌜ (t < s .ticks) × (s .ticks ≤ 2048) ⌝ }
+    ensures { λ r. ⌜ r ≡ middleIn (now (prepared .entry)) s t ⌝ }
 {
-    if mark == CROSSING || mark == INSIDE {
+    let place = (2 * t + 1) as u64;
+    let span = Span {
+        from: place,
+        to: place,
+        ticks: (2 * s.ticks) as u64,
+    };
+    let b = tree_bounds(prepared, s.part, span);
+    level(2 * s.part.iso) <= b.low + b.high
+}
+
+// The bit of tick t with this mark: 1 if it is inside, or crossing and its middle is solid.
+fn tick_bit(prepared: &[i64], s: Search, t: usize, mark: u8) -> u8
+    requires { ⌜ Searchable (now prepared) s ⌝ }
+    requires { ⌜ (t < s .ticks) × (s .ticks ≤ 2048) ⌝ }
+    ensures { λ r. ⌜ (r ≡ tickBit mark (middleIn (now (prepared .entry)) s t)) × (r ≤ 1) ⌝ }
+{
+    if mark == INSIDE {
+        return 1;
+    }
+    if mark == CROSSING && middle_solid(prepared, s, t) {
         1
     } else {
         0
     }
 }
 
-// The byte of the eight marks from a place on, the first one's bit lowest.
-fn pack_byte(marks: &[u8], at: usize) -> u8
-    requires { ⌜ at + 8 ≤ length (now marks) ⌝ }
-    ensures { λ r. ⌜ r ≡ byteAt (map markBit (now (marks .entry))) at ⌝ }
+// The byte of the eight ticks from tick first on, the first one's bit lowest.
+fn pack_byte(prepared: &[i64], s: Search, marks: &[u8], first: usize) -> u8
+    requires { ⌜ Searchable (now prepared) s ⌝ }
+    requires { ⌜ (first + 8 ≤ s .ticks) × (s .ticks ≤ 2048) × (s .ticks ≤ length (now marks)) ⌝ }
+    ensures { λ r. ⌜ r ≡ fromBits (bitIn (now (prepared .entry)) s (now (marks .entry))) first 8 ⌝ }
 {
     let mut byte: u8 = 0;
-    let mut k = 0;
-    while k < 8 {
-        byte = 2 * byte + mark_bit(marks[at + (7 - k)]);
-        k += 1;
+    let mut left = 8;
+    while 0 < left {
+        left -= 1;
+        let t = first + left;
+        byte = 2 * byte + tick_bit(prepared, s, t, marks[t]);
     }
     byte
 }
 
-// The bytes of n times eight marks.
-fn pack(marks: &[u8], n: usize, out: &mut [u8])
-    requires { ⌜ 8 * n ≤ length (now marks) ⌝ }
+// The bytes of n times eight ticks.
+fn pack(prepared: &[i64], s: Search, marks: &[u8], n: usize, out: &mut [u8])
+    requires { ⌜ Searchable (now prepared) s ⌝ }
+    requires { ⌜ (8 * n ≤ s .ticks) × (s .ticks ≤ 2048) × (s .ticks ≤ length (now marks)) ⌝ }
     requires { ⌜ n ≤ length (now out) ⌝ }
-    ensures { λ _. ⌜ now (out .exit) ≡ packed (map markBit (now (marks .entry))) n ++ drop n (now (out .entry)) ⌝ }
+    ensures { λ _. ⌜ now (out .exit)
+        ≡ packed (bitIn (now (prepared .entry)) s (now (marks .entry))) n ++ drop n (now (out .entry)) ⌝ }
 {
     let mut k = 0;
     while k < n {
-        out[k] = pack_byte(marks, 8 * k);
+        out[k] = pack_byte(prepared, s, marks, 8 * k);
         k += 1;
     }
 }
@@ -156,12 +184,13 @@ fn cast_column(out: &mut [u8], prepared: &[i64], s: Search) -> u32
     requires { ⌜ (s .ticks ≡ 2 ^ exponent) × (s .budget ≡ enough (2 ^ exponent)) ⌝ }
     requires { ⌜ columnBytes ≤ length (now out) ⌝ }
     ensures probes { λ r. ⌜ r ≡ probeCount (stateIn (now (prepared .entry)) s) exponent 0 ⌝ }
-    ensures bytes { λ _. ⌜ now (out .exit) ≡ packed (map markBit (spanMarks (stateIn (now (prepared .entry)) s) exponent 0)) columnBytes
+    ensures bytes { λ _. ⌜ now (out .exit)
+        ≡ packed (bitIn (now (prepared .entry)) s (spanMarks (stateIn (now (prepared .entry)) s) exponent 0)) columnBytes
         ++ drop columnBytes (now (out .entry)) ⌝ }
 {
     let mut marks = [NOT_LOOKED_AT; TICKS];
     let answer = cast_ticks(&mut marks[..], prepared, s, LEVEL);
-    pack(&marks[..], COLUMN, out);
+    pack(prepared, s, &marks[..], COLUMN, out);
     probes_of(answer)
 }
 
@@ -208,7 +237,7 @@ pub fn first_hit(file: &[u8], ray: Ray, budget: u32) -> HitAnswer
     }
 }
 
-// Column: a bit for each tick, 1 if it is crossing or inside.
+// Column: a bit for each tick, 1 if it is inside, or crossing and its middle is solid.
 pub fn column(file: &[u8], ray: Ray, bits: &mut [u8]) -> ColumnAnswer
     ensures answer { λ r. ⌜ r ≡ columnAnswer (now (file .entry)) ray (length (now (bits .entry))) ⌝ }
     ensures bytes { λ _. ⌜ now (bits .exit) ≡ bitsLeft (now (file .entry)) ray (now (bits .entry)) ⌝ }

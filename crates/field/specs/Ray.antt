@@ -67,6 +67,10 @@ tick t T = record { from = t; to = t + 1; ticks = T }
 abbrev pub ticks : ℕ → ℕ → ℕ → Span
 ticks i n T = record { from = i; to = i + n; ticks = T }
 
+-- "its exact middle": the place (2 t + 1)/(2 T), halfway from t/T to (t + 1)/T, alone
+abbrev pub middle : ℕ → ℕ → Span
+middle t T = record { from = 2 * t + 1; to = 2 * t + 1; ticks = 2 * T }
+
 -- a span that has places
 pub record Ordered (s : Span) : Type 0 where
   pub ticks-low : 1 ≤ s .ticks

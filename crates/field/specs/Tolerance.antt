@@ -28,3 +28,10 @@ sumOver f (operator o ∷ later) = sumOver f later
 -- "the sum, over the tree's points"
 unfoldable pub demanded : Solid → Ray → ℕ → Fraction
 demanded solid ray T = sumOver (demandedOf (solid .kernel) ray T) (items (solid .nodes))
+
+-- the part of it that is for rounding, "S equal to 0": the size of the weight times slack, of every point; in degree 4, 1/16384 of it
+unfoldable pub roundingOf : Kernel → Node → Fraction
+roundingOf k p = times (pos (natAbs (p .weight))) (k .slack)
+
+unfoldable pub rounding : Solid → Fraction
+rounding solid = sumOver (roundingOf (solid .kernel)) (items (solid .nodes))
