@@ -7,3 +7,4 @@ pub mod Floats
 pub mod Totals
 pub mod Refuted
 pub mod Marching
+pub mod Columns

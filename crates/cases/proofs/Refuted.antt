@@ -2,7 +2,8 @@
 -- that document 01 prints the list of. Each theorem takes what a contract promises, `CastDemands` and its like, and a wrong answer or byte, and
 -- cites the field of the promise that the two contradict; without that field it is not proved. `constant-refusal` and `asked-13-first` are of the
 -- answer that the contract's equation names.
---     constant-crossing, hit-at-start, solid-column            demand 3's distance: `sound`
+--     constant-crossing, constant-inside, hit-at-start         demand 3: `sound`
+--     empty-column, fat-column; solid-column                   a column's bits: `alone`; and at the ticks' middles: `middles`
 --     constant-empty, untouched, left-half-honest, later-hit   demand 2's marks: `alone`
 --     spent-at-once, spent-early, invented-probes              the count rule: `counted`
 --     cast-probes, march-probes                                the same, with the count of the halvings and of the march
@@ -13,13 +14,12 @@
 --     two-nodes, not-enclosing, loose                          the check of a file (`Says`) and the bounds at a place (`PlaceSays`)
 use mathlib.Core.Path.{_≡_, refl, sym, ap, _∙_, subst}
 use mathlib.Core.List.{List}
-use Prim.Native.Nat.{ℕ, _≤_, _<_}
+use Prim.Native.Nat.{ℕ, _/_, _%_, _^_, _≤_, _<_}
 use native.Mathlib.Omega.{arith}
 use lib.ListN.{getD}
 use lib.Seq.{getD-take}
 use native.Mathlib.Decide.{decLe}
 use lib.Dec.{lit≤}
-use borrow.Author.Tests.{ne-eqb}
 use lib.IntN.{ℤ, pos, natAbs}
 use lib.Ieee.{Float, ofBits, round}
 use Rattle.exact.specs.Fraction.{_over_, plus}
@@ -40,7 +40,7 @@ use Rattle.field.specs.Kernel.{pointAt}
 use Rattle.field.specs.Tree.{operatorOf, itemOf, items, joinTop, step, run, treeValue}
 use Rattle.field.specs.Solid.{Solid, kernelOf, solidOf}
 use Rattle.field.specs.Field.{fieldAt}
-use Rattle.field.specs.Tolerance.{demandedOf, sumOver, demanded}
+use Rattle.field.specs.Tolerance.{demandedOf, sumOver, demanded, roundingOf, rounding}
 use Rattle.field.specs.Bounds.{raySquare, prepare, distanceAt, footInside, footDistance, lowQ, highQ, qlo, qhi}
 use Rattle.field.specs.Bounds.{weighted, pointBounds, joinBounds, treeBounds, stateOf, emptyMark, crossingMark, insideMark, notLookedAt}
 use Rattle.field.specs.Marks.{spanState, markOf, SoundMark}
@@ -55,10 +55,10 @@ use Rattle.halving.specs.FirstHit.{hitLookedAt}
 use Rattle.halving.proofs.Halving.{Walked}
 use Rattle.cast.specs.declared.ColumnAnswer.the-variants as column
 use Rattle.cast.specs.Ticks.{exponent, rayState}
-use Rattle.cast.specs.Column.{markBit, columnLookedAt}
+use Rattle.cast.specs.Column.{solidBy, middleSolid, tickBit, bitOf, columnLookedAt}
 use Rattle.cast.specs.Questions.{endsDiffer, hitQuestions, bufferQuestions}
 use Rattle.cast.specs.Calls.{rayProbes, rayMarks, rayWalk, castAfter, fullCast}
-use Rattle.cast.specs.Demands.{Sound, Alone, AloneBits, Empty, AloneHit, Counted, CountedHit, SameOrder, CountedColumn}
+use Rattle.cast.specs.Demands.{Sound, Alone, AloneBits, Middles, Empty, AloneHit, Counted, CountedHit, SameOrder, CountedColumn}
 use Rattle.cast.specs.Demands.{MarkDemands, CastDemands, HitDemands, ColumnDemands}
 use Rattle.cast.proofs.Demands.{ray-walked}
 use Rattle.march.specs.Marching.{nextTick, nextLength, countFrom}
@@ -131,13 +131,6 @@ module _ {mark : ℕ} (sound : SoundMark (K .iso) mark (fieldAt K ray 0 1) (dema
       let h = rw (start-is .1, start-is .0) at (sound .inside e) in
       h .cross .le
 
-  -- so its bit in a column is not 1
-  no-bit : markBit mark ≡ 1 → ⊥
-  unfolding markBit
-  no-bit e =
-      let f = rw (ne-eqb mark crossingMark not-crossing, ne-eqb mark insideMark not-inside) at e in
-      omega (arith, f)
-
 -- ---- a full cast or a marching cast that is complete, whatever its count
 
 module _ {count most budget probes : ℕ} {after : List ℕ} (d : MarkDemands K ray 1024 count most budget (cast.Complete probes) after) where
@@ -145,6 +138,11 @@ module _ {count most budget probes : ℕ} {after : List ℕ} (d : MarkDemands K 
   pub constant-crossing : getD after 0 notLookedAt ≡ crossingMark → ⊥
   unfolding Alone Sound castLookedAt
   constant-crossing e = not-crossing (d .sound 0 (lit≤ tt) first) (sym (d .alone 0 (lit≤ tt)) ∙ e)
+
+  -- and constant "inside"
+  pub constant-inside : getD after 0 notLookedAt ≡ insideMark → ⊥
+  unfolding Alone Sound castLookedAt
+  constant-inside e = not-inside (d .sound 0 (lit≤ tt) first) (sym (d .alone 0 (lit≤ tt)) ∙ e)
 
   -- a byte that is not the tick's mark
   wrong-mark : (t : ℕ) {mark byte : ℕ} → t < 1024 → markOf K ray 1024 t ≡ mark → getD after t notLookedAt ≡ byte → (mark ≡ byte → ⊥) → ⊥
@@ -234,20 +232,42 @@ module _ {budget : ℕ} where
 
 -- ---- a column
 
+-- the bits of two ticks, a crossing one and an inside one
+bits-are : (bitOf K ray 1024 330 ≡ 0) × (bitOf K ray 1024 400 ≡ 1)
+unfolding
+    u16 u32 i16 isPoint iso distance start count nodeAt zeroBytes recordAt recordsFrom nodesFrom nodes ceil operatorOf itemOf items joinTop step run
+    treeValue kernelOf raySquare prepare distanceAt footInside footDistance lowQ highQ qlo qhi weighted pointBounds joinBounds treeBounds stateOf
+    spanState markOf solidBy middleSolid tickBit bitOf
+bits-are = (refl, refl)
+
+-- the exact field at the middle of tick 0, and the rounding: 4 × 1/16384
+middle-is : (fieldAt K ray 1 2048 ≡ pos 0 over 1208925819614629174706176) × (rounding K ≡ pos 4 over 16384)
+unfolding
+    u16 u32 i16 isPoint iso distance start count nodeAt zeroBytes recordAt recordsFrom nodesFrom nodes operatorOf itemOf items joinTop step run
+    treeValue kernelOf plus squaredDistance pointAt fieldAt roundingOf sumOver rounding
+middle-is = (refl, refl)
+
 module _ {probes : ℕ} {after : List ℕ} (d : ColumnDemands K ray exponent (column.Complete probes) after) where
+  -- a bit that is not the tick's
+  wrong-bit : (t : ℕ) {bit : ℕ} → t < 1024 → bitOf K ray 1024 t ≡ bit → (getD after (t / 8) 0 / 2 ^ (t % 8) % 2 ≡ bit → ⊥) → ⊥
+  unfolding AloneBits columnLookedAt
+  wrong-bit t h is wrong = wrong (d .alone t h ∙ is)
+
   -- an empty column: the byte of ticks 400 to 407
   pub empty-column : getD after 50 0 ≡ 0 → ⊥
-  unfolding AloneBits columnLookedAt markBit
-  empty-column e =
-      let bit = d .alone 400 (lit≤ tt) in
-      omega (arith, rw (e, marks-are .1) at bit)
+  empty-column e = wrong-bit 400 (lit≤ tt) (bits-are .1) (λ f. omega (arith, rw e at f))
 
-  -- a solid column, by the bits and by demand 3's distance: the byte of ticks 0 to 7
+  -- a fat one, each crossing tick solid: the byte of ticks 328 to 335
+  pub fat-column : getD after 41 0 ≡ 0xfc → ⊥
+  fat-column e = wrong-bit 330 (lit≤ tt) (bits-are .0) (λ f. omega (arith, rw e at f))
+
+  -- a solid column, by the exact field at the middle of tick 0: the byte of ticks 0 to 7
   pub solid-column : getD after 0 0 ≡ 255 → ⊥
-  unfolding AloneBits Sound columnLookedAt
+  unfolding AloneBits Middles columnLookedAt plus
   solid-column e =
       let bit = d .alone 0 (lit≤ tt) in
-      no-bit (d .sound 0 (lit≤ tt) first) (sym (rw e at bit))
+      let h = rw (start-is .0, middle-is .0, middle-is .1) at (d .middles 0 (lit≤ tt) .sound .solid (sym (rw e at bit))) in
+      h .cross .le
 
   pub column-probes : (probes ≡ 39 → ⊥) → ⊥
   unfolding CountedColumn

@@ -1,11 +1,11 @@
 -- What each way out of the calls shows. An accepted file and ray can be searched (`searchable`), and the states that the search finds in the prepared
--- numbers are those of the file's solid on the ray (`states-are`), for any number of ticks up to 4,096.
-use mathlib.Core.Path.{_≡_, refl, ap, fun-ext, _∙_}
-use mathlib.Core.List.{List, [], _∷_, _++_, map}
-use Prim.Native.Nat.{ℕ, _^_, _≤_}
+-- numbers are those of the file's solid on the ray (`states-are`), for any number of ticks up to 4,096; so are a column's bits (`bits-are`).
+use mathlib.Core.Path.{_≡_, refl, ap, ap₂, fun-ext, _∙_}
+use mathlib.Core.List.{List, [], _∷_, _++_}
+use Prim.Native.Nat.{ℕ, _^_, _≤_, _<_}
 use native.Mathlib.Omega.{arith}
 use borrow.Author.Tests.{leb-true}
-use lib.ListN.{length, drop}
+use lib.ListN.{length, getD, drop}
 use lib.IntN.{ℤ}
 use lib.Dec.{leb}
 use Rattle.part.specs.declared.Summary.{Summary}
@@ -15,10 +15,13 @@ use Rattle.record.specs.declared.Verdict.{Verdict}
 use Rattle.record.proofs.Questions.{yes-append, all-yes}
 use Rattle.part.proofs.File.{answer-accepted, answer-refused}
 use Rattle.field.specs.declared.Ray.{Ray}
-use Rattle.field.specs.Ray.{ticks}
+use Rattle.field.specs.Ray.{ticks, middle}
 use Rattle.field.specs.Solid.{solidOf}
+use Rattle.field.specs.Bounds.{emptyMark}
+use Rattle.field.specs.Marks.{markOf}
 use Rattle.loading.specs.Prepared.{preparedRoom}
 use Rattle.loading.specs.Loading.{rayQuestions, checkRay, loadedRay}
+use Rattle.loading.proofs.Loading.{accepted-ray}
 use Rattle.bounds.proofs.Serving.{Serves, serves}
 use Rattle.halving.specs.declared.Search.{Search}
 use Rattle.halving.specs.declared.CastAnswer.{CastAnswer}
@@ -32,11 +35,13 @@ use Rattle.cast.specs.declared.ColumnAnswer.{ColumnAnswer}
 use Rattle.cast.specs.declared.ColumnAnswer.the-variants as column
 use Rattle.cast.specs.Ticks.{exponent, rayState}
 use Rattle.cast.specs.Questions.{endsDiffer, hitQuestions, bufferQuestions, checkHit, checkBuffer}
-use Rattle.cast.specs.Column.{columnBytes, markBit, packed}
+use Rattle.cast.specs.Column.{columnBytes, solidBy, middleIn, middleSolid, tickBit, bitIn, bitOf, packed}
 use Rattle.cast.specs.Calls.{castAfter, fullCast, marksAfter, marksLeft}
 use Rattle.cast.specs.Calls.{hitAfter, firstHit, columnAfter, columnAnswer, bitsAfter, bitsLeft}
 use Rattle.cast.specs.Demands.{CastDemands, HitDemands, ColumnDemands}
 use Rattle.cast.proofs.Questions.{asked-before}
+use Rattle.cast.proofs.Bits.{packed-same}
+use Rattle.cast.proofs.Ticks.{ray-marks-at}
 use Rattle.cast.proofs.Demands.{cast-demands, hit-demands, column-demands}
 
 -- what the search is handed
@@ -76,6 +81,16 @@ module _ (file : List ℕ) (ray : Ray) where
     pub states-are : (T budget : ℕ) → stateIn l (searched part T budget) ≡ rayState (solidOf file) ray T
     unfolding stateIn rayState
     states-are T budget = fun-ext (λ t. fun-ext (λ len. served .states (ticks t len T)))
+
+    -- a tick's bit, by the marks that the search finds, is its own
+    pub bits-are : (k budget t : ℕ) → t < 2 ^ k
+        → bitIn l (searched part (2 ^ k) budget) (spanMarks (stateIn l (searched part (2 ^ k) budget)) k 0) t ≡ bitOf (solidOf file) ray (2 ^ k) t
+    unfolding bitIn middleIn bitOf middleSolid
+    bits-are k budget t h =
+        let mark : getD (spanMarks (stateIn l (searched part (2 ^ k) budget)) k 0) t emptyMark ≡ markOf (solidOf file) ray (2 ^ k) t
+        = ap (λ (st : ℕ → ℕ → ℕ). getD (spanMarks st k 0) t emptyMark) (states-are (2 ^ k) budget)
+        ∙ ray-marks-at (solidOf file) (accepted-ray file ray (ray-accepted e) .valid) ray k t emptyMark h in
+        ap₂ tickBit mark (ap₂ solidBy (served .iso-is) (served .bounds (middle t (2 ^ k))))
 
 -- ---- a cast that hands over T ticks' marks: in the states it finds an answer, and marks of every tick
 
@@ -172,11 +187,13 @@ module _ (file : List ℕ) (ray : Ray) (lent : List ℕ) where
       let v = answer-refused (firstNo (bufferQuestions file ray columnBytes (length lent))) file e in
       column-promised _ lent (rw v) (rw v)
 
-  pub column-made : {st : ℕ → ℕ → ℕ} (p : ℕ) (l : List ℕ) {part : Summary} → st ≡ rayState (solidOf file) ray (2 ^ exponent)
+  pub column-made : {st : ℕ → ℕ → ℕ} (p : ℕ) (l : List ℕ) (bit : ℕ → ℕ) {part : Summary} → st ≡ rayState (solidOf file) ray (2 ^ exponent)
+      → ((t : ℕ) → t < 2 ^ exponent → bit t ≡ bitOf (solidOf file) ray (2 ^ exponent) t)
       → checkBuffer file ray columnBytes (length lent) ≡ Accepted part → p ≡ probeCount st exponent 0
-      → l ≡ packed (map markBit (spanMarks st exponent 0)) columnBytes ++ drop columnBytes lent → ColumnPromised (column.Complete p) l
+      → l ≡ packed bit columnBytes ++ drop columnBytes lent → ColumnPromised (column.Complete p) l
   unfolding checkBuffer columnAnswer columnAfter bitsLeft bitsAfter
-  column-made p l is e probes bytes =
+  column-made p l bit is same e probes bytes =
       let v = answer-accepted (firstNo (bufferQuestions file ray columnBytes (length lent))) file e in
       column-promised _ l (rw v (ap column.Complete (probes ∙ ap (λ (st : ℕ → ℕ → ℕ). probeCount st exponent 0) is)))
-      (rw v (bytes ∙ ap (λ (st : ℕ → ℕ → ℕ). packed (map markBit (spanMarks st exponent 0)) columnBytes ++ drop columnBytes lent) is))
+      (rw v (bytes
+      ∙ ap (λ (m : List ℕ). m ++ drop columnBytes lent) (packed-same bit (bitOf (solidOf file) ray (2 ^ exponent)) columnBytes (λ t h. same t h))))

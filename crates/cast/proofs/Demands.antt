@@ -1,9 +1,9 @@
 -- Demands 2 and 3 on the calls' definitions (`cast-demands`, `hit-demands`, `column-demands`): each looked-at tick is marked as if judged alone, the
 -- probes are counted as document 01 says, a first hit's in the full cast's order, refusals have its numbers, and at every place of every looked-at
--- tick the mark holds of the exact field. A refused call looks at no tick; of an accepted one the solid is valid, so the laws of the halvings and of
+-- tick the mark holds of the exact field, at its middle the column's bit. A refused call looks at no tick; of an accepted one the solid is valid, so the laws of the halvings and of
 -- a tick judged alone apply.
 use mathlib.Core.Path.{_≡_, refl, sym, ap, _∙_}
-use mathlib.Core.List.{List, [], _∷_, _++_, map}
+use mathlib.Core.List.{List, [], _∷_, _++_}
 use Prim.Native.Nat.{ℕ, _-_, _/_, _%_, _^_, _≤_, _<_}
 use native.Mathlib.Omega.{arith, pow-step}
 use native.Mathlib.Nat.{zero-add}
@@ -34,14 +34,15 @@ use Rattle.halving.specs.FirstHit.{hitLookedAt}
 use Rattle.halving.proofs.Halving.{Walked, walked, count-below, length-marks}
 use Rattle.halving.proofs.FirstHit.{Found, hits}
 use Rattle.halving.proofs.SameOrder.{spent-alike, clear-alike, hit-known}
-use Rattle.cast.specs.Column.{columnBytes, markBit, packed, columnLookedAt}
+use Rattle.cast.specs.Column.{columnBytes, middleSolid, bitOf, packed, columnLookedAt}
 use Rattle.cast.specs.Ticks.{exponent, enough, rayState}
 use Rattle.cast.specs.Questions.{endsDiffer, hitQuestions, bufferQuestions}
 use Rattle.cast.specs.Calls.{rayProbes, rayMarks, rayWalk, rayHit, castAfter, fullCast, marksAfter, marksLeft}
 use Rattle.cast.specs.Calls.{hitAfter, firstHit, columnAfter, columnAnswer, bitsAfter, bitsLeft}
-use Rattle.cast.specs.Demands.{Sound, Alone, AloneBits, Empty, AloneHit, Counted, CountedHit, SameOrder, CountedColumn}
+use Rattle.cast.specs.Demands.{Sound, Alone, AloneBits, Middles, Empty, AloneHit, Counted, CountedHit, SameOrder, CountedColumn}
 use Rattle.cast.specs.Demands.{MarkDemands, CastDemands, HitDemands, ColumnDemands}
-use Rattle.cast.proofs.Bits.{length-packed, column-bit}
+use Rattle.cast.proofs.Bits.{bit-few, length-packed, packed-bit}
+use Rattle.cast.proofs.Middles.{middle-says}
 use Rattle.cast.proofs.Ticks.{ray-nested, tick-mark, ray-marks-at}
 
 -- ---- accepted calls
@@ -189,25 +190,29 @@ module _ (solid : Solid) (ray : Ray) where
 
   -- ---- a column has 2^exponent ticks
 
-  column-alone : Valid solid → (lent : List ℕ) → AloneBits solid ray (2 ^ exponent) (2 ^ exponent) (bitsAfter Yes solid ray lent)
-  unfolding bitsAfter AloneBits
-  column-alone valid lent t h =
-      let bits = map markBit (rayMarks solid ray exponent) in
-      let bytes = packed bits columnBytes in
+  column-alone : (lent : List ℕ) → AloneBits solid ray (2 ^ exponent) (2 ^ exponent) (bitsAfter Yes solid ray lent)
+  unfolding bitsAfter AloneBits bitOf
+  column-alone lent t h =
+      let bit = bitOf solid ray (2 ^ exponent) in
       ap (λ (byte : ℕ). byte / 2 ^ (t % 8) % 2)
-      (List·getD-append bytes (drop columnBytes lent) 0 (t / 8) (omega (arith, length-packed bits columnBytes)))
-      ∙ column-bit (rayMarks solid ray exponent) columnBytes t (omega arith)
-      ∙ ap markBit (ray-marks-at solid valid ray exponent t notLookedAt h)
+      (List·getD-append (packed bit columnBytes) (drop columnBytes lent) 0 (t / 8) (omega (arith, length-packed bit columnBytes)))
+      ∙ packed-bit bit (λ i. bit-few (markOf solid ray (2 ^ exponent) i) (middleSolid solid ray (2 ^ exponent) i)) columnBytes t (omega arith)
 
   column-by : (v : Verdict) (lent : List ℕ) → (v ≡ Yes → Valid solid) → ((n : ℕ) → v ≡ No n → (1 ≤ n) × (n ≤ 14))
       → ColumnDemands solid ray exponent (columnAfter v solid ray) (bitsAfter v solid ray lent)
-  unfolding columnAfter bitsAfter columnLookedAt AloneBits CountedColumn
+  unfolding columnAfter bitsAfter columnLookedAt AloneBits CountedColumn Middles
   column-by Yes lent valid number = record {
-    alone = column-alone (valid refl) lent;
+    alone = column-alone lent;
     counted = (refl, at-most exponent);
     sound = sound (valid refl) (pow-pos exponent) (2 ^ exponent);
+    middles = λ t h. middle-says solid (valid refl) ray t (pow-pos exponent);
   }
-  column-by (No n) lent valid number = record { alone = λ t h. absurd (omega arith); counted = number n refl; sound = no-ticks (2 ^ exponent) }
+  column-by (No n) lent valid number = record {
+    alone = λ t h. absurd (omega arith);
+    counted = number n refl;
+    sound = no-ticks (2 ^ exponent);
+    middles = λ t h. absurd (omega arith);
+  }
 
   -- a first hit looks at no more ticks than there are
   pub hit-within : (T : ℕ) (f : HitAnswer) → AloneHit solid ray T f → hitLookedAt T f ≤ T

@@ -1,5 +1,6 @@
 pub mod Questions
 pub mod Bits
+pub mod Middles
 pub mod Ticks
 pub mod Demands
 pub mod Columns

@@ -11,7 +11,7 @@ use Rattle.field.specs.declared.Ray.{Ray}
 use Rattle.field.specs.declared.Bounds.{Bounds}
 use Rattle.field.specs.Ray.{middle}
 use Rattle.field.specs.Solid.{Solid}
-use Rattle.field.specs.Bounds.{crossingMark, insideMark, notLookedAt, level, treeBounds}
+use Rattle.field.specs.Bounds.{emptyMark, crossingMark, insideMark, level, treeBounds}
 use Rattle.field.specs.Marks.{markOf}
 use Rattle.bounds.specs.Probe.{preparedBounds}
 use Rattle.halving.specs.declared.Search.{Search}
@@ -45,7 +45,7 @@ unfoldable pub middleIn : List ℤ → Search → ℕ → Bool
 middleIn l s t = solidBy (s .part .iso) (preparedBounds (s .part) l (middle t (s .ticks)))
 
 unfoldable pub bitIn : List ℤ → Search → List ℕ → ℕ → ℕ
-bitIn l s marks t = tickBit (getD marks t notLookedAt) (middleIn l s t)
+bitIn l s marks t = tickBit (getD marks t emptyMark) (middleIn l s t)
 
 -- ---- a column's bytes
 

@@ -154,11 +154,11 @@ fn pack_byte(prepared: &[i64], s: Search, marks: &[u8], first: usize) -> u8
     ensures { λ r. ⌜ r ≡ fromBits (bitIn (now (prepared .entry)) s (now (marks .entry))) first 8 ⌝ }
 {
     let mut byte: u8 = 0;
-    let mut left = 8;
-    while 0 < left {
-        left -= 1;
-        let t = first + left;
+    let mut k = 0;
+    while k < 8 {
+        let t = first + (7 - k);
         byte = 2 * byte + tick_bit(prepared, s, t, marks[t]);
+        k += 1;
     }
     byte
 }

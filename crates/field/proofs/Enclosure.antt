@@ -2,8 +2,6 @@
 use lib.IntN.{pos}
 use lib.Signed.{_≤ℤ_}
 use Rattle.exact.specs.Fraction.{_over_}
-use Rattle.exact.proofs.Order.{mul-cancel-le, pos-mono-lt}
-use Rattle.exact.proofs.Fractions.{≼-trans}
 use Rattle.record.specs.Ranges.{PointRanges}
 use Rattle.field.specs.declared.Ray.{Ray}
 use Rattle.field.specs.declared.Span.{Span}
@@ -15,7 +13,8 @@ use Rattle.field.specs.Bounds.{boundingOn, noBounds, treeBounds, Enclose
 use Rattle.field.proofs.Tree.{value-related, tree-items}
 use Rattle.field.proofs.Distances.{radius-pos}
 use Rattle.field.proofs.Nearest.{first}
-use Rattle.field.proofs.Points.{one-pos, point-encloses}
+use Rattle.field.proofs.Points.{point-encloses}
+use Rattle.field.proofs.States.{ends-ordered}
 use Rattle.field.proofs.Operators.{join-encloses}
 
 module _ (solid : Solid) (valid : Valid solid) (ray : Ray) {s : Span} (o : Ordered s) where
@@ -28,6 +27,4 @@ module _ (solid : Solid) (valid : Valid solid) (ray : Ray) {s : Span} (o : Order
 
   -- so the two are in order
   pub low-le-high : treeBounds solid ray s .low ≤ℤ treeBounds solid ray s .high
-  low-le-high =
-      let e = enclosure (first o) in
-      mul-cancel-le (pos-mono-lt one-pos) (≼-trans (e .proper) (e .above) (e .below) .cross)
+  low-le-high = ends-ordered (enclosure (first o))

@@ -1,5 +1,6 @@
 -- One point, whatever the kernel: its bounds enclose its value at every place (`point-encloses`), those of a span within a span are no looser
--- (`point-within`), and those of one tick lie no farther apart than its tolerance (`point-narrow`).
+-- (`point-within`), and those of one tick lie no farther apart than its tolerance (`point-narrow`), those of one place than
+-- its part for rounding (`place-narrow`).
 use mathlib.Core.Path.{_≡_, refl, sym, subst}
 use mathlib.Core.Bool.{Bool, true, false}
 use Prim.Native.Nat.{ℕ, _*_, _-_, _^_, _≤_, _<_}
@@ -7,8 +8,8 @@ use native.Mathlib.Nat.{mul-pos, one-le-pow, pow-le-pow-left}
 use native.Mathlib.Omega.{arith}
 use lib.IntN.{ℤ, pos, natAbs, _-ℤ_, _*ℤ_}
 use lib.Signed.{ltZ, _≤ℤ_}
-use Rattle.exact.specs.Fraction.{Fraction, _over_, Proper, _≼_, times}
-use Rattle.exact.proofs.Ring.{_⊕_, _⊖_, ⊝_, _⊗_, _≔_, ring}
+use Rattle.exact.specs.Fraction.{Fraction, _over_, Proper, _≼_, plus, times}
+use Rattle.exact.proofs.Ring.{_⊕_, _⊖_, ⊝_, _⊗_, #, _≔_, ring}
 use Rattle.exact.proofs.Order.{nn-pos, nn-mul, sub-nn, <ℤ-le, ≤ℤ-trans, ≤ℤ-of-eq, mul-mono-l, mul-anti-l, mul-cancel-le}
 use Rattle.exact.proofs.Order.{pos-mono, pos-mono-lt, pos-reflect, le-pos-monus}
 use Rattle.exact.proofs.Absolute.{pos-natAbs-nn, pos-natAbs-neg}
@@ -22,13 +23,13 @@ use Rattle.field.specs.declared.Span.{Span}
 use Rattle.field.specs.declared.Bounds.{Bounds}
 use Rattle.field.specs.Ray.{radius, extent, tick, Ordered, Place}
 use Rattle.field.specs.Kernel.{fixedOne, Kernel, uDen, uNum, pointAt}
-use Rattle.field.specs.Bounds.{raySquare, prepare, qlo, qhi, weighted, pointBounds, Encloses, Within, NoWider}
-use Rattle.field.specs.Tolerance.{demandedOf}
+use Rattle.field.specs.Bounds.{raySquare, prepare, qlo, qhi, weighted, pointBounds, units, Encloses, Within, NoWider}
+use Rattle.field.specs.Tolerance.{demandedOf, roundingOf}
 use Rattle.field.specs.Lawful.{Lawful}
 use Rattle.field.proofs.Extremes.{extremes}
 use Rattle.field.proofs.Between.{uDen-pos, low-holds, high-holds}
 use Rattle.field.proofs.Quotients.{qlo-le, qhi-le}
-use Rattle.field.proofs.Width.{tick-width}
+use Rattle.field.proofs.Width.{tick-width, place-width}
 
 pub one-pos : 1 ≤ fixedOne
 one-pos = omega arith
@@ -108,6 +109,19 @@ module _ (k : Kernel) (law : Lawful k) (q R d : ℕ) where
       (le 6 (λ a c q s R d. d ⊗ s ⊗ c ≦ a ⊗ R ⊗ c by R ⊗ (a ⊗ c ⊖ q ⊗ s) ⊕ s ⊗ (q ⊗ R ⊖ c ⊗ d)) tt
       (pos (k .high q)) (pos (65536 ^ k .power)) (pos (q ^ k .power)) (pos fixedOne) (pos (R ^ k .power)) (pos (d ^ k .power)) (search nn depth 8)))
 
+times-mono : (v : ℕ) {x y : Fraction} → x ≼ y → times (pos v) x ≼ times (pos v) y
+times-mono v {x} {y} h = record {
+  cross = le 5 (λ v a b c d. v ⊗ a ⊗ d ≦ v ⊗ c ⊗ b by v ⊗ (c ⊗ b ⊖ a ⊗ d)) tt (pos v) (x .num) (pos (x .den)) (y .num) (pos (y .den))
+      (nn-mul (nn-pos v) (sub-nn (h .cross)));
+}
+
+-- nothing added, whatever it is counted in
+none-more : (t n : ℕ) (x : Fraction) → plus (pos (n * 0) over t) x ≼ x
+unfolding plus
+none-more t n x = record {
+  cross = ≤ℤ-of-eq (ring 4 (λ t n a b. (n ⊗ # 0 ⊗ b ⊕ a ⊗ t) ⊗ b ≔ a ⊗ (t ⊗ b)) tt (pos t) (pos n) (x .num) (pos (x .den)));
+}
+
 -- ---- the point
 
 module _ (k : Kernel) (law : Lawful k) (ray : Ray) (p : Node) (hr : 1 ≤ radius p) where
@@ -140,21 +154,35 @@ module _ (k : Kernel) (law : Lawful k) (ray : Ray) (p : Node) (hr : 1 ≤ radius
       nn-mul (nn-pos (natAbs (p .weight)))
       (plus-nn (pos (k .slope * extent ray) over (T * radius p)) (k .slack) (nn-pos (k .slope * extent ray)) (law .slack-nn))
 
+  -- how far its bounds over a span lie apart, where its two q lie as close as those of a stretch of S/t
+  spread : (s : Span) → 1 ≤ s .ticks → (S t : ℕ)
+      → (qhi (raySquare ray) (prepare ray p) s - qlo (raySquare ray) (prepare ray p) s) * t ≤ 131072 * S + 2 * t
+      → units (on s .high -ℤ on s .low) ≼ times (pos (natAbs (p .weight))) (plus (pos (k .slope * S) over t) (k .slack))
+  unfolding pointBounds prepare
+  spread s hT S t h =
+      let l : ℕ = qlo (raySquare ray) (prepare ray p) s in
+      let g : ℕ = qhi (raySquare ray) (prepare ray p) s in
+      let l-le = qlo-le (raySquare ray) (prepare ray p) s in
+      let g-le = qhi-le (raySquare ray) (prepare ray p) s (mul-pos hr hr) hT in
+      ≼-trans one-pos (≼-over fixedOne (weighted-width (p .weight) (k .low l) (k .high g)))
+      (times-mono (natAbs (p .weight)) (law .narrow l g S t l-le g-le h))
+
   pub point-narrow : (t : ℕ) {T : ℕ} → 1 ≤ T → NoWider (on (tick t T)) (demandedOf k ray T p)
-  unfolding pointBounds demandedOf prepare
-  point-narrow t {T} hT =
-      let l : ℕ = qlo (raySquare ray) (prepare ray p) (tick t T) in
-      let h : ℕ = qhi (raySquare ray) (prepare ray p) (tick t T) in
-      let l-le = qlo-le (raySquare ray) (prepare ray p) (tick t T) in
-      let h-le = qhi-le (raySquare ray) (prepare ray p) (tick t T) (mul-pos hr hr) hT in
-      let n = law .narrow l h (extent ray) (T * radius p) l-le h-le (tick-width ray p t T hr hT) in
-      record {
-        proper = demanded-proper hT;
-        width = ≼-trans one-pos (≼-over fixedOne (weighted-width (p .weight) (k .low l) (k .high h))) (times-mono (natAbs (p .weight)) n);
-      }
-    where
-      times-mono : (v : ℕ) {x y : Fraction} → x ≼ y → times (pos v) x ≼ times (pos v) y
-      times-mono v {x} {y} h = record {
-        cross = le 5 (λ v a b c d. v ⊗ a ⊗ d ≦ v ⊗ c ⊗ b by v ⊗ (c ⊗ b ⊖ a ⊗ d)) tt (pos v) (x .num) (pos (x .den)) (y .num) (pos (y .den))
-            (nn-mul (nn-pos v) (sub-nn (h .cross)));
-      }
+  unfolding demandedOf
+  point-narrow t {T} hT = record {
+    proper = demanded-proper hT;
+    width = spread (tick t T) hT (extent ray) (T * radius p) (tick-width ray p t T hr hT);
+  }
+
+  pub rounding-nn : pos 0 ≤ℤ roundingOf k p .num
+  unfolding roundingOf
+  rounding-nn = nn-mul (nn-pos (natAbs (p .weight))) (law .slack-nn)
+
+  pub place-narrow : {s : Span} → Ordered s → s .from ≡ s .to → NoWider (on s) (roundingOf k p)
+  unfolding roundingOf
+  place-narrow {s} o one = record {
+    proper = law .slack-proper;
+    width = ≼-trans (plus-proper (pos (k .slope * 0) over (s .ticks * radius p)) (k .slack) (mul-pos (o .ticks-low) hr) (law .slack-proper))
+        (spread s (o .ticks-low) 0 (s .ticks * radius p) (place-width ray p hr o one))
+        (times-mono (natAbs (p .weight)) (none-more (s .ticks * radius p) (k .slope) (k .slack)));
+  }

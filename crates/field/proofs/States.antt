@@ -1,16 +1,18 @@
 -- The state of bounds: what it says of them (`empty-high`, `inside-low`) and of a number that they enclose (`crossing-near`, `state-sound`), and
--- which bounds have it (`empty-state`, `inside-state`).
+-- which bounds have it (`empty-state`, `inside-state`). What the sum of two bounds says of such a number: `sum-high`, `sum-low`.
 use mathlib.Core.Path.{_≡_, refl, sym, subst}
 use mathlib.Core.Logic.{_⊎_, inl, inr}
 use mathlib.Core.Bool.{Bool, true, false, cond}
-use Prim.Native.Nat.{ℕ}
+use Prim.Native.Nat.{ℕ, _*_}
 use native.Mathlib.Omega.{arith}
-use lib.IntN.{ℤ, pos, natAbs, _-ℤ_, _*ℤ_}
+use lib.IntN.{ℤ, pos, natAbs, _+ℤ_, _-ℤ_, _*ℤ_}
 use lib.Signed.{leZ, ltZ, _≤ℤ_, _<ℤ_, clashℤ}
-use Rattle.exact.specs.Fraction.{Fraction, _≼_, apart}
+use Rattle.exact.specs.Fraction.{Fraction, _over_, _≼_, _≺_, plus, apart}
 use Rattle.exact.proofs.Ring.{_⊕_, _⊖_, ⊝_, _⊗_, #}
 use Rattle.exact.proofs.Order.{nn-pos, <ℤ-le, ≤ℤ-trans, mul-cancel-le, mul-mono-lt, le-or-lt, pos-mono-lt}
+use Rattle.exact.proofs.Linear.{cross, uncross, cross-lt, uncross-lt, add-parts}
 use Rattle.exact.proofs.Absolute.{natAbs-is}
+use Rattle.exact.proofs.Fractions.{≼-trans}
 use Rattle.exact.proofs.Certificates.{_≦_by_, le, nn}
 use Rattle.exact.proofs.Tests.{leZ-true, leZ-false, ltZ-true, ltZ-false, le-leZ, lt-ltZ, le-ltZ}
 use Rattle.field.specs.declared.Bounds.{Bounds}
@@ -40,6 +42,10 @@ inside-low iso b g = elim (picked (ltZ (b .high) (level iso)) (leZ (level iso) (
   | inr k ↦ elim k [ inl k ↦ leZ-true (level iso) (b .low) (k .0) | inr k ↦ absurd (omega (arith, k .2)) ]
 ]
 
+-- bounds that enclose something are in order
+pub ends-ordered : {b : Bounds} {x : Fraction} → Encloses b x → b .low ≤ℤ b .high
+ends-ordered e = mul-cancel-le (pos-mono-lt one-pos) (≼-trans (e .proper) (e .above) (e .below) .cross)
+
 -- ---- the three claims, from the bounds l and h: n/d is the field, z/c the tolerance, s the unit, i the iso-value
 module _ (l h n d z c s i : ℤ) (hd : pos 0 <ℤ d) (hc : pos 0 ≤ℤ c) (hs : pos 0 <ℤ s) (lo : (l *ℤ d) ≤ℤ (n *ℤ s)) (hi : (n *ℤ s) ≤ℤ (h *ℤ d)) where
   below : h <ℤ (i *ℤ s) → (n *ℤ pos 1) <ℤ (i *ℤ d)
@@ -59,6 +65,19 @@ module _ (l h n d z c s i : ℤ) (hd : pos 0 <ℤ d) (hc : pos 0 ≤ℤ c) (hs :
     | inr e ↦ subst (λ (v : ℤ). (v *ℤ c) ≤ℤ (z *ℤ d)) (sym e)
         (mul-cancel-le hs (le 8 (λ l h n d z c s i. ⊝ (n ⊖ i ⊗ d) ⊗ c ⊗ s ≦ z ⊗ d ⊗ s
         by d ⊗ (z ⊗ s ⊖ (h ⊖ l) ⊗ c) ⊕ d ⊗ c ⊗ (h ⊖ i ⊗ s) ⊕ c ⊗ (n ⊗ s ⊖ l ⊗ d)) tt l h n d z c s i (search nn depth 8)))
+  ]
+
+  -- to within the tolerance, the field is at least an iso-value that the high reaches, and below one that the low does not
+  at-least : (i *ℤ s) ≤ℤ h → ((h -ℤ l) *ℤ c) ≤ℤ (z *ℤ s) → (i *ℤ (d *ℤ c)) ≤ℤ ((n *ℤ c +ℤ z *ℤ d) *ℤ pos 1)
+  at-least p w = mul-cancel-le hs (le 8 (λ l h n d z c s i. i ⊗ (d ⊗ c) ⊗ s ≦ (n ⊗ c ⊕ z ⊗ d) ⊗ # 1 ⊗ s
+      by c ⊗ (n ⊗ s ⊖ l ⊗ d) ⊕ d ⊗ (z ⊗ s ⊖ (h ⊖ l) ⊗ c) ⊕ d ⊗ c ⊗ (h ⊖ i ⊗ s)) tt l h n d z c s i (search nn depth 8))
+
+  at-most : pos 0 <ℤ c → l <ℤ (i *ℤ s) → ((h -ℤ l) *ℤ c) ≤ℤ (z *ℤ s) → (n *ℤ (pos 1 *ℤ c)) <ℤ ((i *ℤ c +ℤ z *ℤ pos 1) *ℤ d)
+  at-most k p w = elim (le-or-lt ((i *ℤ c +ℤ z *ℤ pos 1) *ℤ d) (n *ℤ (pos 1 *ℤ c))) [
+    | inl e ↦ clashℤ (mul-mono-lt (mul-mono-lt p hd) k)
+        (le 8 (λ l h n d z c s i. i ⊗ s ⊗ d ⊗ c ≦ l ⊗ d ⊗ c
+        by s ⊗ (n ⊗ (# 1 ⊗ c) ⊖ (i ⊗ c ⊕ z ⊗ # 1) ⊗ d) ⊕ c ⊗ (h ⊗ d ⊖ n ⊗ s) ⊕ d ⊗ (z ⊗ s ⊖ (h ⊖ l) ⊗ c)) tt l h n d z c s i (search nn depth 8))
+    | inr e ↦ e
   ]
 
 -- bounds that enclose the field and are no wider than the tolerance
@@ -99,6 +118,24 @@ module _ (iso : ℕ) (b : Bounds) (x y : Fraction) (e : Encloses b x) (w : NoWid
           dx dy ds (e .above .cross) (e .below .cross) (inside-low iso b g);
     };
     crossing = crossing-near;
+  }
+
+  -- ---- bounds that add up to twice the iso-value or more, and such as do not
+
+  pub sum-high : level (2 * iso) ≤ℤ (b .low +ℤ b .high) → pos iso over 1 ≼ plus x y
+  unfolding plus
+  sum-high k = record {
+    cross = at-least (b .low) (b .high) (x .num) (pos (x .den)) (y .num) (pos (y .den)) (pos fixedOne) (pos iso)
+        dx dy ds (e .above .cross) (e .below .cross)
+        (uncross (omega (arith, cross k, cross (ends-ordered e), add-parts (b .low) (b .high)))) (w .width .cross);
+  }
+
+  pub sum-low : (b .low +ℤ b .high) <ℤ level (2 * iso) → x ≺ plus (pos iso over 1) y
+  unfolding plus
+  sum-low k = record {
+    cross = at-most (b .low) (b .high) (x .num) (pos (x .den)) (y .num) (pos (y .den)) (pos fixedOne) (pos iso)
+        dx dy ds (e .above .cross) (e .below .cross) (pos-mono-lt (w .proper))
+        (uncross-lt (omega (arith, cross-lt k, cross (ends-ordered e), add-parts (b .low) (b .high)))) (w .width .cross);
   }
 
 -- ---- which state bounds have

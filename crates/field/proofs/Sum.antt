@@ -1,4 +1,4 @@
--- A tree's fold in which every operator adds is the sum over the tree's points: `demanded-fold`. An operator replaces two held values by their sum,
+-- A tree's fold in which every operator adds is the sum over the tree's points: `sum-fold`. An operator replaces two held values by their sum,
 -- so the held values added up are at every step the points passed, added up.
 use mathlib.Core.Path.{_≡_, sym, _∙_, ap}
 use mathlib.Core.List.{List, [], _∷_}
@@ -11,10 +11,8 @@ use Rattle.exact.proofs.Fractions.{plus-assoc, plus-comm, plus-none}
 use Rattle.record.specs.declared.Node.{Node}
 use Rattle.record.specs.Ranges.{PointRanges}
 use Rattle.part.specs.Accepted.{Tree}
-use Rattle.field.specs.declared.Ray.{Ray}
 use Rattle.field.specs.Tree.{Item, point, operator, Algebra, items, joinTop, step, run, treeValue, Postfix}
-use Rattle.field.specs.Solid.{Solid}
-use Rattle.field.specs.Tolerance.{demandedOf, demanded, sumOver}
+use Rattle.field.specs.Tolerance.{sumOver}
 use Rattle.field.proofs.Tree.{join-length, run-one, tree-items}
 
 -- every operator adds
@@ -55,8 +53,5 @@ module _ (f : Node → Fraction) (Q : Node → Type 0) where
   unfolding treeValue total
   fold-adds is d h = sym (one-left (run (adding f) is []) d (run-one (adding f) Q is [] h)) ∙ adds is [] h ∙ plus-none (sumOver f is)
 
-pub demanded-fold : (solid : Solid) (ray : Ray) (T : ℕ) → Tree (solid .nodes)
-    → demanded solid ray T ≡ treeValue (adding (demandedOf (solid .kernel) ray T)) (pos 0 over 1) (items (solid .nodes))
-unfolding demanded
-demanded-fold solid ray T tree =
-    sym (fold-adds (demandedOf (solid .kernel) ray T) PointRanges (items (solid .nodes)) (pos 0 over 1) (tree-items (solid .nodes) tree))
+pub sum-fold : (f : Node → Fraction) (ns : List Node) → Tree ns → sumOver f (items ns) ≡ treeValue (adding f) (pos 0 over 1) (items ns)
+sum-fold f ns tree = sym (fold-adds f PointRanges (items ns) (pos 0 over 1) (tree-items ns tree))

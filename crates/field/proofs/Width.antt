@@ -1,5 +1,5 @@
 -- How far a point's two q lie apart over a span from i/T to j/T: at most 65536 × 2 S (j − i)/(T r), and two for the rounding (`width`); over one
--- tick j − i is 1 (`tick-width`). Between two places u changes no faster than they are apart (exact's Lipschitz).
+-- tick j − i is 1 (`tick-width`), at one place 0 (`place-width`). Between two places u changes no faster than they are apart (exact's Lipschitz).
 use mathlib.Core.Path.{_≡_, sym, _∙_, ap, ap₂, subst}
 use Prim.Native.Nat.{ℕ, _+_, _-_, _*_, _≤_, _<_}
 use native.Mathlib.Nat.{mul-one, mul-pos}
@@ -178,3 +178,13 @@ tick-width ray p t T hr hT =
   where
     one : (t : ℕ) → t + 1 - t ≡ 1
     one t = omega arith
+
+pub place-width : (ray : Ray) (p : Node) → 1 ≤ radius p → {s : Span} → Ordered s → s .from ≡ s .to
+    → (qhi (raySquare ray) (prepare ray p) s - qlo (raySquare ray) (prepare ray p) s) * (s .ticks * radius p) ≤ 131072 * 0 + 2 * (s .ticks * radius p)
+place-width ray p hr {s} o one =
+    subst (λ (k : ℕ). (qhi (raySquare ray) (prepare ray p) s - qlo (raySquare ray) (prepare ray p) s) * (s .ticks * radius p)
+    ≤ 131072 * k + 2 * (s .ticks * radius p))
+    (ap (λ (k : ℕ). extent ray * k) none) (width ray p s hr o)
+  where
+    none : s .to - s .from ≡ 0
+    none = omega (arith, one)

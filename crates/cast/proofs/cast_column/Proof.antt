@@ -1,10 +1,10 @@
 -- `cast_column`: the cast is complete, so its probes are the ray's and the marks that are packed are all the ray's.
 use mathlib.Core.Path.{ap, _∙_}
-use mathlib.Core.List.{List, _++_, map}
+use mathlib.Core.List.{List, _++_}
 use Prim.Native.Nat.{ℕ}
 use lib.ListN.{drop}
 use borrow.Author.Needs.{needs}
-use Rattle.cast.specs.Column.{columnBytes, markBit, packed}
+use Rattle.cast.specs.Column.{columnBytes, bitIn, packed}
 use Rattle.halving.specs.Search.{stateIn}
 use Rattle.cast.proofs.Columns.{all-probes, all-marks}
 use Rattle.cast.proofs.cast_column.Statement.{statement}
@@ -19,7 +19,7 @@ returns c =
     let st = stateIn (a .prepared .now) (a .s) in (
       c .probes-of .ensures ∙ all-probes st (s .pre .1 .0 .1) (s .pre .1 .0 .0) (w .result) (w .ensures .0),
       c .before .before .before .pack .ensures
-          ∙ ap (λ (ms : List ℕ). packed (map markBit ms) columnBytes ++ drop columnBytes (a .out .now))
+          ∙ ap (λ (ms : List ℕ). packed (bitIn (a .prepared .now) (a .s) ms) columnBytes ++ drop columnBytes (a .out .now))
           (all-marks st (s .pre .1 .0 .1) (s .pre .1 .0 .0) (w .result) (w .ensures .0) _ (w .ensures .1)),
     )
 

@@ -4,9 +4,11 @@ use lib.ListN.{length}
 use native.Mathlib.Omega.{arith}
 use borrow.Author.Needs.{needs}
 use Rattle.part.specs.declared.Checked.the-variants.{Accepted}
+use Rattle.cast.specs.Ticks.{exponent}
 use Rattle.cast.specs.Column.{columnBytes}
 use Rattle.cast.specs.Questions.{checkHit, checkBuffer}
-use Rattle.cast.proofs.Calls.{hit-accepted, room-enough, prepared-long, searchable, states-are, column-refused, column-made}
+use Rattle.cast.proofs.Calls.{hit-accepted, room-enough, prepared-long, searchable, states-are, bits-are}
+use Rattle.cast.proofs.Calls.{column-refused, column-made}
 use Rattle.cast.proofs.column.Statement.{statement}
 use Rattle.cast.proofs.column.Tie as tie
 
@@ -39,4 +41,6 @@ column-spec =
     let k = c .before .before .before .before .before .before in
     let l = k .before .before .load-buffer in
     let w = c .before .before .cast-column in
-    column-made _ _ _ _ _ (states-are _ _ _ _ refl (l .ensures .1) (accepted k) _ _) (buffer k) (w .ensures .0) (w .ensures .1)))
+    let loaded = l .ensures .1 in
+    column-made _ _ _ _ _ _ (states-are _ _ _ _ refl loaded (accepted k) _ _) (bits-are _ _ _ _ refl loaded (accepted k) exponent _) (buffer k)
+    (w .ensures .0) (w .ensures .1)))

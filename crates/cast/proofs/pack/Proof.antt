@@ -2,20 +2,20 @@
 use Prim.Native.Nat.{_-_, _≤_}
 use native.Mathlib.Omega.{arith}
 use mathlib.Core.Path.{_≡_, refl, _∙_}
-use mathlib.Core.List.{map}
 use lib.ListN.{length, length-set}
 use lib.Seq.{sets}
+use borrow.Author.Needs.{needs}
 use Rattle.exact.proofs.Buffers.{sets-whole}
-use Rattle.cast.specs.Column.{markBit, packed}
+use Rattle.cast.specs.Column.{bitIn, packed}
 use Rattle.cast.proofs.Bits.{length-packed, packed-more}
 use Rattle.cast.proofs.pack.Statement.{statement}
 use Rattle.cast.proofs.pack.Tie as tie
 
 abbrev Inv-loop : tie.InvT-loop
-Inv-loop marks n out₀ k₀ out k = (k ≤ n) × (out ≡ sets out₀ 0 (packed (map markBit marks) k)) × (length out ≡ length out₀)
+Inv-loop prepared s marks n out₀ k₀ out k = (k ≤ n) × (out ≡ sets out₀ 0 (packed (bitIn prepared s marks) k)) × (length out ≡ length out₀)
 
 abbrev μ-loop : tie.MeasureT-loop
-μ-loop marks n out₀ k₀ out k = n - k
+μ-loop prepared s marks n out₀ k₀ out k = n - k
 
 pub pack-spec : {M : Type 1} → statement M
 unfolding packed
@@ -26,7 +26,7 @@ pack-spec =
     μ-loop
     (λ c. (omega arith, refl, refl))
     (λ c. omega arith)
-    (λ c κs. omega arith)
+    (λ c κs. ?)
     (λ c. omega arith)
     (λ c. omega arith)
     (λ c. omega arith)
@@ -34,7 +34,7 @@ pack-spec =
     let l = c .before .before .loop in
     let a = c .before .before .before .before .before .args in (
       omega arith,
-      rw (l .inv .1, c .pack-byte .ensures) (packed-more (map markBit (a .marks .now)) (a .out .now) (l .k)),
+      rw (l .inv .1, c .pack-byte .ensures) (packed-more (bitIn (a .prepared .now) (a .s) (a .marks .now)) (a .out .now) (l .k)),
       length-set (l .out) (l .k) (c .pack-byte .result) ∙ l .inv .2,
     ))
     (λ c. c .before .loop .inv .2)
@@ -42,5 +42,6 @@ pack-spec =
     let s = c .before .before .before .before in
     let a = s .args in
     let l = c .before .loop in
+    let bit = bitIn (a .prepared .now) (a .s) (a .marks .now) in
     let e : l .k ≡ a .n = omega arith in
-    (rw e at (l .inv .1)) ∙ sets-whole (packed (map markBit (a .marks .now)) (a .n)) (a .out .now) (a .n) (length-packed _ (a .n)) (s .pre .1)))
+    (rw e at (l .inv .1)) ∙ sets-whole (packed bit (a .n)) (a .out .now) (a .n) (length-packed bit (a .n)) (s .pre .1 .1)))
