@@ -62,8 +62,10 @@ rows =
     ∷ (request fileK (across (pos 362)) bits, (Complete 39, replicate 63 0 ++ 0xe0 ∷ 0x07 ∷ replicate 63 0))
     ∷ (request fileK (across (pos 512)) bits, (Complete 1, replicate 128 0))
     -- ticks 383 and 639 have their middles at (−256, 256, 0) and (256, 256, 0), where u is 1/2 and both bounds are iso × 2³²: solid
-    ∷ (request fileK (record { start = at (negℤ (pos 1023)) (pos 256); end = at (pos 1025) (pos 256) }) bits,
-    (Complete 39, replicate 47 0 ++ 0x80 ∷ replicate 32 0xff ++ replicate 48 0))
+    ∷ (
+      request fileK (record { start = at (negℤ (pos 1023)) (pos 256); end = at (pos 1025) (pos 256) }) bits,
+      (Complete 39, replicate 47 0 ++ 0x80 ∷ replicate 32 0xff ++ replicate 48 0),
+    )
     ∷ (request strut wide bits, (Complete 39, replicate 128 0))
     -- refused: "A = B: 13", "Coordinate 2,048: 12", a buffer of 127
     ∷ (request fileK (record { start = at (pos 1) (pos 2); end = at (pos 1) (pos 2) }) bits, (Refused 13, bits))

@@ -73,6 +73,7 @@ module _ (solid : Solid) (valid : Valid solid) (ray : Ray) (t : ℕ) {T : ℕ} (
   b = treeBounds solid ray (middle t T)
 
   encloses : Encloses b (fieldAt solid ray (2 * t + 1) (2 * T))
+  unfolding middle-place
   encloses = enclosure solid valid ray (middle-ordered t hT) (middle-place t hT)
 
   narrow : NoWider b (rounding solid)
@@ -93,14 +94,14 @@ module _ (solid : Solid) (valid : Valid solid) (ray : Ray) (t : ℕ) {T : ℕ} (
   -- what the bit says of the sum of the two bounds
   solid-sum : bitOf solid ray T t ≡ 1 → level (2 * solid .iso) ≤ℤ (b .low +ℤ b .high)
   unfolding middleSolid solidBy
-  solid-sum e = elim (cond-by (middleSolid solid ray T t) 1 0 (leZ-true _ _) (λ f. f)) [
+  solid-sum e = elim (cond-by {A = ℕ} {Q = Unit {0}} (middleSolid solid ray T t) 1 0 (leZ-true (level (2 * solid .iso)) (b .low +ℤ b .high)) (λ f. tt)) [
     | inl k ↦ k .0
     | inr k ↦ absurd (omega (arith, e, bit-is-middle, k .1))
   ]
 
   empty-sum-low : bitOf solid ray T t ≡ 0 → (b .low +ℤ b .high) <ℤ level (2 * solid .iso)
   unfolding middleSolid solidBy
-  empty-sum-low e = elim (cond-by (middleSolid solid ray T t) 1 0 (λ f. f) (leZ-false _ _)) [
+  empty-sum-low e = elim (cond-by {A = ℕ} {P = Unit {0}} (middleSolid solid ray T t) 1 0 (λ f. tt) (leZ-false (level (2 * solid .iso)) (b .low +ℤ b .high))) [
     | inl k ↦ absurd (omega (arith, e, bit-is-middle, k .1))
     | inr k ↦ k .0
   ]

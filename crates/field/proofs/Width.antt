@@ -2,7 +2,7 @@
 -- tick j − i is 1 (`tick-width`), at one place 0 (`place-width`). Between two places u changes no faster than they are apart (exact's Lipschitz).
 use mathlib.Core.Path.{_≡_, sym, _∙_, ap, ap₂, subst}
 use Prim.Native.Nat.{ℕ, _+_, _-_, _*_, _≤_, _<_}
-use native.Mathlib.Nat.{mul-one, mul-pos}
+use native.Mathlib.Nat.{mul-one, mul-zero, mul-pos}
 use native.Mathlib.Omega.{arith}
 use lib.IntN.{ℤ, pos, negℤ, natAbs, _+ℤ_, _-ℤ_, _*ℤ_}
 use lib.Signed.{_≤ℤ_}
@@ -184,7 +184,7 @@ pub place-width : (ray : Ray) (p : Node) → 1 ≤ radius p → {s : Span} → O
 place-width ray p hr {s} o one =
     subst (λ (k : ℕ). (qhi (raySquare ray) (prepare ray p) s - qlo (raySquare ray) (prepare ray p) s) * (s .ticks * radius p)
     ≤ 131072 * k + 2 * (s .ticks * radius p))
-    (ap (λ (k : ℕ). extent ray * k) none) (width ray p s hr o)
+    (ap (λ (k : ℕ). extent ray * k) none ∙ mul-zero (extent ray)) (width ray p s hr o)
   where
     none : s .to - s .from ≡ 0
     none = omega (arith, one)

@@ -4,7 +4,6 @@ use native.Mathlib.Omega.{arith}
 use mathlib.Core.Path.{_≡_, refl, _∙_}
 use lib.ListN.{length, length-set}
 use lib.Seq.{sets}
-use borrow.Author.Needs.{needs}
 use Rattle.exact.proofs.Buffers.{sets-whole}
 use Rattle.cast.specs.Column.{bitIn, packed}
 use Rattle.cast.proofs.Bits.{length-packed, packed-more}
@@ -26,7 +25,7 @@ pack-spec =
     μ-loop
     (λ c. (omega arith, refl, refl))
     (λ c. omega arith)
-    (λ c κs. ?)
+    (λ c κs. let p = c .before .before .before .before .pre in (p .0, (omega arith, p .1 .0 .1, p .1 .0 .2)))
     (λ c. omega arith)
     (λ c. omega arith)
     (λ c. omega arith)

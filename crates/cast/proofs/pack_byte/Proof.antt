@@ -25,8 +25,8 @@ room c =
 loop-again : tie.Need-loop-again Inv-loop μ-loop
 unfolding fromBits bitIn
 loop-again c =
-    let l = c .before .before .before .before .loop in
-    let a = c .before .before .before .before .before .before .args in
+    let l = c .before .before .before .loop in
+    let a = c .before .before .before .before .before .args in
     let b = c .tick-bit .ensures in
     let bit = bitIn (a .prepared .now) (a .s) (a .marks .now) in
     let here : a .first + (8 - suc (l .k)) ≡ a .first + (7 - l .k) = omega arith in
@@ -44,15 +44,15 @@ pack-byte-spec =
     Inv-loop
     μ-loop
     (λ c. (omega arith, omega arith, refl))
+    (λ c. omega arith)
+    (λ c. omega arith)
     (λ c. omega (arith, room c))
     (λ c. omega arith)
-    (λ c. omega arith)
-    (λ c. omega arith)
-    (λ c κs. search needs)
+    (λ c κs. let p = c .before .before .before .before .pre in (p .0, (omega arith, p .1 .1)))
     (λ c. omega (arith, room (c .before .before), c .tick-bit .ensures .1))
     (λ c. omega arith)
     (λ c. omega arith)
     loop-again
     (λ c.
     let e : c .before .loop .k ≡ 8 = omega arith in
-    rw (e, add-zero) at (c .before .loop .inv .2)))
+    rw (e, add-zero (c .before .before .before .args .first)) at (c .before .loop .inv .2)))
