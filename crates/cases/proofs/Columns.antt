@@ -84,7 +84,7 @@ unfolding
 columns = refl
 
 -- n ticks from tick t on
-unfoldable ticksFrom : ℕ → ℕ → List ℕ
+unfoldable pub ticksFrom : ℕ → ℕ → List ℕ
 ticksFrom zero t = []
 ticksFrom (suc n) t = t ∷ ticksFrom n (suc t)
 

@@ -266,7 +266,7 @@ module _ {probes : ℕ} {after : List ℕ} (d : ColumnDemands K ray exponent (co
   unfolding AloneBits Middles columnLookedAt plus
   solid-column e =
       let bit = d .alone 0 (lit≤ tt) in
-      let h = rw (start-is .0, middle-is .0, middle-is .1) at (d .middles 0 (lit≤ tt) .sound .solid (sym (rw e at bit))) in
+      let h = rw (middle-is .0, middle-is .1, start-is .0) at (d .middles 0 (lit≤ tt) .sound .solid (sym (rw e at bit))) in
       h .cross .le
 
   pub column-probes : (probes ≡ 39 → ⊥) → ⊥

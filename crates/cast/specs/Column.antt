@@ -34,18 +34,11 @@ middleSolid solid ray T t = solidBy (solid .iso) (treeBounds solid ray (middle t
 
 -- the bit of a tick with this mark, by whether its middle is solid
 unfoldable pub tickBit : ℕ → Bool → ℕ
-tickBit mark middle = cond (eqb mark insideMark || (eqb mark crossingMark && middle)) 1 0
+tickBit mark solid = cond (eqb mark insideMark || (eqb mark crossingMark && solid)) 1 0
 
 -- the bit of tick t of T
 unfoldable pub bitOf : Solid → Ray → ℕ → ℕ → ℕ
 bitOf solid ray T t = tickBit (markOf solid ray T t) (middleSolid solid ray T t)
-
--- whether the middle of tick t is solid, from the prepared numbers; and the bit of tick t by these and the ticks' marks
-unfoldable pub middleIn : List ℤ → Search → ℕ → Bool
-middleIn l s t = solidBy (s .part .iso) (preparedBounds (s .part) l (middle t (s .ticks)))
-
-unfoldable pub bitIn : List ℤ → Search → List ℕ → ℕ → ℕ
-bitIn l s marks t = tickBit (getD marks t emptyMark) (middleIn l s t)
 
 -- ---- a column's bytes
 
@@ -70,3 +63,11 @@ columnNumber (Complete probes) = 65536 + probes
 unfoldable pub columnLookedAt : ℕ → ColumnAnswer → ℕ
 columnLookedAt n (Refused number) = 0
 columnLookedAt n (Complete probes) = n
+
+-- ---- for the inner functions: from the prepared numbers, whether the middle of tick t is solid, and its bit by the ticks' marks
+
+unfoldable pub middleIn : List ℤ → Search → ℕ → Bool
+middleIn l s t = solidBy (s .part .iso) (preparedBounds (s .part) l (middle t (s .ticks)))
+
+unfoldable pub bitIn : List ℤ → Search → List ℕ → ℕ → ℕ
+bitIn l s marks t = tickBit (getD marks t emptyMark) (middleIn l s t)
