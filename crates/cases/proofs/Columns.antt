@@ -18,14 +18,14 @@ use Rattle.field.specs.declared.Ray.{Ray}
 use Rattle.field.specs.Tree.{operatorOf, itemOf, items, joinTop, step, run, treeValue}
 use Rattle.field.specs.Solid.{kernelOf, solidOf}
 use Rattle.field.specs.Bounds.{raySquare, prepare, distanceAt, footInside, footDistance, lowQ, highQ, qlo, qhi}
-use Rattle.field.specs.Bounds.{weighted, pointBounds, joinBounds, treeBounds, stateOf, emptyMark, crossingMark}
+use Rattle.field.specs.Bounds.{weighted, pointBounds, joinBounds, treeBounds, stateOf, solidBy, emptyMark, crossingMark}
 use Rattle.field.specs.Marks.{spanState, markOf}
 use Rattle.loading.specs.Loading.{positionInRange, rayInRange, rayQuestions}
 use Rattle.halving.specs.Halving.{probeCount, spanMarks}
 use Rattle.cast.specs.declared.ColumnAnswer.{ColumnAnswer}
 use Rattle.cast.specs.declared.ColumnAnswer.the-variants.{Refused, Complete}
 use Rattle.cast.specs.Ticks.{exponent, rayState}
-use Rattle.cast.specs.Column.{solidBy, middleSolid, tickBit, bitOf, fromBits, packed}
+use Rattle.cast.specs.Column.{middleSolid, tickBit, bitOf, fromBits, packed}
 use Rattle.cast.specs.Questions.{endsDiffer, hitQuestions, bufferQuestions}
 use Rattle.cast.specs.Calls.{rayMarks, columnAfter, columnAnswer, bitsAfter, bitsLeft}
 use Rattle.cases.proofs.Rays.{onePoint, fileK, at, across}

@@ -42,7 +42,7 @@ use Rattle.field.specs.Solid.{Solid, kernelOf, solidOf}
 use Rattle.field.specs.Field.{fieldAt}
 use Rattle.field.specs.Tolerance.{demandedOf, sumOver, demanded, roundingOf, rounding}
 use Rattle.field.specs.Bounds.{raySquare, prepare, distanceAt, footInside, footDistance, lowQ, highQ, qlo, qhi}
-use Rattle.field.specs.Bounds.{weighted, pointBounds, joinBounds, treeBounds, stateOf, emptyMark, crossingMark, insideMark, notLookedAt}
+use Rattle.field.specs.Bounds.{weighted, pointBounds, joinBounds, treeBounds, stateOf, solidBy, emptyMark, crossingMark, insideMark, notLookedAt}
 use Rattle.field.specs.Marks.{spanState, markOf, SoundMark}
 use Rattle.loading.specs.Loading.{positionInRange, rayInRange, rayQuestions}
 use Rattle.bounds.specs.declared.BoundsAnswer.the-variants as place
@@ -55,7 +55,7 @@ use Rattle.halving.specs.FirstHit.{hitLookedAt}
 use Rattle.halving.proofs.Halving.{Walked}
 use Rattle.cast.specs.declared.ColumnAnswer.the-variants as column
 use Rattle.cast.specs.Ticks.{exponent, rayState}
-use Rattle.cast.specs.Column.{solidBy, middleSolid, tickBit, bitOf, columnLookedAt}
+use Rattle.cast.specs.Column.{middleSolid, tickBit, bitOf, columnLookedAt}
 use Rattle.cast.specs.Questions.{endsDiffer, hitQuestions, bufferQuestions}
 use Rattle.cast.specs.Calls.{rayProbes, rayMarks, rayWalk, castAfter, fullCast}
 use Rattle.cast.specs.Demands.{Sound, Alone, AloneBits, Middles, Empty, AloneHit, Counted, CountedHit, SameOrder, CountedColumn}

@@ -17,7 +17,7 @@ use Rattle.part.proofs.File.{answer-accepted, answer-refused}
 use Rattle.field.specs.declared.Ray.{Ray}
 use Rattle.field.specs.Ray.{ticks, middle}
 use Rattle.field.specs.Solid.{solidOf}
-use Rattle.field.specs.Bounds.{emptyMark}
+use Rattle.field.specs.Bounds.{emptyMark, solidBy}
 use Rattle.field.specs.Marks.{markOf}
 use Rattle.loading.specs.Prepared.{preparedRoom}
 use Rattle.loading.specs.Loading.{rayQuestions, checkRay, loadedRay}
@@ -35,7 +35,7 @@ use Rattle.cast.specs.declared.ColumnAnswer.{ColumnAnswer}
 use Rattle.cast.specs.declared.ColumnAnswer.the-variants as column
 use Rattle.cast.specs.Ticks.{exponent, rayState}
 use Rattle.cast.specs.Questions.{endsDiffer, hitQuestions, bufferQuestions, checkHit, checkBuffer}
-use Rattle.cast.specs.Column.{columnBytes, solidBy, middleIn, middleSolid, tickBit, bitIn, bitOf, packed}
+use Rattle.cast.specs.Column.{columnBytes, middleIn, middleSolid, tickBit, bitIn, bitOf, packed}
 use Rattle.cast.specs.Calls.{castAfter, fullCast, marksAfter, marksLeft}
 use Rattle.cast.specs.Calls.{hitAfter, firstHit, columnAfter, columnAnswer, bitsAfter, bitsLeft}
 use Rattle.cast.specs.Demands.{CastDemands, HitDemands, ColumnDemands}

@@ -20,14 +20,14 @@ use Rattle.field.specs.Ray.{tick, middle, Ordered, Place, Inside}
 use Rattle.field.specs.Solid.{Solid, Valid}
 use Rattle.field.specs.Field.{fieldAt}
 use Rattle.field.specs.Tolerance.{rounding}
-use Rattle.field.specs.Bounds.{emptyMark, insideMark, level, treeBounds, Encloses, NoWider, stateOf, Decides}
+use Rattle.field.specs.Bounds.{emptyMark, insideMark, level, treeBounds, Encloses, NoWider, stateOf, solidBy}
 use Rattle.field.specs.Marks.{spanState, markOf}
 use Rattle.field.proofs.Width.{tick-ordered}
 use Rattle.field.proofs.States.{empty-high, inside-low, three-states, ends-ordered, sum-high, sum-low}
 use Rattle.field.proofs.Enclosure.{enclosure}
 use Rattle.field.proofs.Nested.{state-nested}
 use Rattle.field.proofs.Tolerance.{narrow-place}
-use Rattle.cast.specs.Column.{solidBy, middleSolid, tickBit, bitOf}
+use Rattle.cast.specs.Column.{middleSolid, tickBit, bitOf}
 use Rattle.cast.specs.Demands.{SoundBit, MiddleSays}
 
 -- ---- a place of the tick

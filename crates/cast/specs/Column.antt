@@ -5,13 +5,11 @@ use mathlib.Core.List.{List, [], _∷_, _++_}
 use mathlib.Core.Bool.{Bool, cond, _&&_, _||_}
 use lib.Dec.{eqb}
 use lib.ListN.{getD}
-use lib.IntN.{ℤ, _+ℤ_}
-use lib.Signed.{leZ}
+use lib.IntN.{ℤ}
 use Rattle.field.specs.declared.Ray.{Ray}
-use Rattle.field.specs.declared.Bounds.{Bounds}
 use Rattle.field.specs.Ray.{middle}
 use Rattle.field.specs.Solid.{Solid}
-use Rattle.field.specs.Bounds.{emptyMark, crossingMark, insideMark, level, treeBounds}
+use Rattle.field.specs.Bounds.{emptyMark, crossingMark, insideMark, treeBounds, solidBy}
 use Rattle.field.specs.Marks.{markOf}
 use Rattle.bounds.specs.Probe.{preparedBounds}
 use Rattle.halving.specs.declared.Search.{Search}
@@ -24,11 +22,7 @@ columnBytes = 128
 
 -- ---- a tick's bit
 
--- "the low and high bounds […] add up to at least 2 × iso × 2³²"
-unfoldable pub solidBy : ℕ → Bounds → Bool
-solidBy iso b = leZ (level (2 * iso)) (b .low +ℤ b .high)
-
--- so they do at the middle of tick t of T
+-- the bounds at the middle of tick t of T "add up to at least 2 × iso × 2³²"
 unfoldable pub middleSolid : Solid → Ray → ℕ → ℕ → Bool
 middleSolid solid ray T t = solidBy (solid .iso) (treeBounds solid ray (middle t T))
 

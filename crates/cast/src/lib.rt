@@ -1,8 +1,7 @@
 // Casts of a ray through a part file's tree: full cast, first hit and column, each from a file's bytes to its answer and its bytes
 // (document 01, "Calls", questions 12 to 14; document 02, P6).
 
-use bounds::level;
-use bounds::tree_bounds;
+use bounds::span_solid;
 use exact::both;
 use field::CROSSING;
 use field::INSIDE;
@@ -115,7 +114,7 @@ fn probes_of(answer: CastAnswer) -> u32
 
 // ---- a column's bits
 
-// Whether the low and high bounds at the middle of tick t add up to at least twice the iso-value's level. No probe is counted for them.
+// Whether the middle of tick t is solid.
 fn middle_solid(prepared: &[i64], s: Search, t: usize) -> bool
     requires { ⌜ Searchable (now prepared) s ⌝ }
     requires { ⌜ (t < s .ticks) × (s .ticks ≤ 2048) ⌝ }
@@ -127,8 +126,7 @@ fn middle_solid(prepared: &[i64], s: Search, t: usize) -> bool
         to: place,
         ticks: (2 * s.ticks) as u64,
     };
-    let b = tree_bounds(prepared, s.part, span);
-    level(2 * s.part.iso) <= b.low + b.high
+    span_solid(prepared, s.part, span)
 }
 
 // The bit of tick t with this mark: 1 if it is inside, or crossing and its middle is solid.

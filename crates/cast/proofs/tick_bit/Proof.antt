@@ -2,8 +2,11 @@
 use native.Mathlib.Omega.{arith}
 use mathlib.Core.Path.{_≡_, sym, _∙_}
 use mathlib.Core.Logic.{inl, inr}
+use mathlib.Core.Bool.{false}
+use lib.Dec.{eqb}
 use borrow.Author.Needs.{needs}
 use borrow.Author.Tests.{eq-eqb, ne-eqb}
+use Rattle.field.specs.Bounds.{insideMark}
 use Rattle.cast.specs.Column.{tickBit, middleIn}
 use Rattle.cast.proofs.tick_bit.Statement.{statement}
 use Rattle.cast.proofs.tick_bit.Tie as tie
@@ -12,7 +15,7 @@ use Rattle.cast.proofs.tick_bit.Tie as tie
 not-solid : (c : tie.Joined2) → let a = c .before .before .args in 0 ≡ tickBit (a .mark) (middleIn (a .prepared .now) (a .s) (a .t))
 unfolding tickBit
 not-solid c =
-    let other = ne-eqb _ _ (c .before .if1 .left) in
+    let other : eqb (c .before .before .args .mark) insideMark ≡ false = ne-eqb _ _ (c .before .if1 .left) in
     elim (c .if2 .came) [
       | inl t ↦ rw (other, eq-eqb _ _ (t .0 .taken), sym (t .1 .ensures) ∙ t .2 .left)
       | inr t ↦ rw (other, ne-eqb _ _ (t .left))
