@@ -3,7 +3,8 @@
 -- cites the field of the promise that the two contradict; without that field it is not proved. `constant-refusal` and `asked-13-first` are of the
 -- answer that the contract's equation names.
 --     constant-crossing, constant-inside, hit-at-start         demand 3: `sound`
---     empty-column, fat-column; solid-column                   a column's bits: `alone`; and at the ticks' middles: `middles`
+--     empty-column, fat-column; solid-column                   a column's bits: `alone`; and the marks: `sound`
+--     solid-middle, middle-outside                             the exact field at the ticks' middles: `middles`
 --     constant-empty, untouched, left-half-honest, later-hit   demand 2's marks: `alone`
 --     spent-at-once, spent-early, invented-probes              the count rule: `counted`
 --     cast-probes, march-probes                                the same, with the count of the halvings and of the march
@@ -19,7 +20,9 @@ use native.Mathlib.Omega.{arith}
 use lib.ListN.{getD}
 use lib.Seq.{getD-take}
 use native.Mathlib.Decide.{decLe}
+use mathlib.Core.Bool.{Bool}
 use lib.Dec.{lit≤}
+use borrow.Author.Tests.{ne-eqb}
 use lib.IntN.{ℤ, pos, natAbs}
 use lib.Ieee.{Float, ofBits, round}
 use Rattle.exact.specs.Fraction.{_over_, plus}
@@ -35,7 +38,7 @@ use Rattle.part.specs.File.{iso, version, distance, marked, trailerQuestions, s
 use Rattle.part.specs.File.{recordsQuestions, fileQuestions, Says}
 use Rattle.field.specs.declared.Ray.{Ray}
 use Rattle.field.specs.declared.Bounds.{Bounds}
-use Rattle.field.specs.Ray.{squaredDistance, tick, Place}
+use Rattle.field.specs.Ray.{squaredDistance, tick, middle, Place}
 use Rattle.field.specs.Kernel.{pointAt}
 use Rattle.field.specs.Tree.{operatorOf, itemOf, items, joinTop, step, run, treeValue}
 use Rattle.field.specs.Solid.{Solid, kernelOf, solidOf}
@@ -130,6 +133,13 @@ module _ {mark : ℕ} (sound : SoundMark (K .iso) mark (fieldAt K ray 0 1) (dema
   not-inside e =
       let h = rw (start-is .1, start-is .0) at (sound .inside e) in
       h .cross .le
+
+  -- so its bit in a column is not 1, whatever its middle
+  no-bit : (solid : Bool) → tickBit mark solid ≡ 1 → ⊥
+  unfolding tickBit
+  no-bit solid e =
+      let f = rw (ne-eqb mark insideMark not-inside, ne-eqb mark crossingMark not-crossing) at e in
+      omega (arith, f)
 
 -- ---- a full cast or a marching cast that is complete, whatever its count
 
@@ -240,12 +250,13 @@ unfolding
     spanState markOf solidBy middleSolid tickBit bitOf
 bits-are = (refl, refl)
 
--- the exact field at the middle of tick 0, and the rounding: 4 × 1/16384
+-- the exact field at the middles of ticks 0 and 512, and the rounding: 4 × 1/16384
 middle-is : (fieldAt K ray 1 2048 ≡ pos 0 over 1208925819614629174706176) × (rounding K ≡ pos 4 over 16384)
+    × (fieldAt K ray 1025 2048 ≡ pos 4835666385040738023899136 over 1208925819614629174706176)
 unfolding
     u16 u32 i16 isPoint iso distance start count nodeAt zeroBytes recordAt recordsFrom nodesFrom nodes operatorOf itemOf items joinTop step run
     treeValue kernelOf plus squaredDistance pointAt fieldAt roundingOf sumOver rounding
-middle-is = (refl, refl)
+middle-is = (refl, refl, refl)
 
 module _ {probes : ℕ} {after : List ℕ} (d : ColumnDemands K ray exponent (column.Complete probes) after) where
   -- a bit that is not the tick's
@@ -261,12 +272,26 @@ module _ {probes : ℕ} {after : List ℕ} (d : ColumnDemands K ray exponent (co
   pub fat-column : getD after 41 0 ≡ 0xfc → ⊥
   fat-column e = wrong-bit 330 (lit≤ tt) (bits-are .0) (λ f. omega (arith, rw e at f))
 
-  -- a solid column, by the exact field at the middle of tick 0: the byte of ticks 0 to 7
+  -- a solid column, by the bits and by demand 3's distance: the byte of ticks 0 to 7
   pub solid-column : getD after 0 0 ≡ 255 → ⊥
-  unfolding AloneBits Middles columnLookedAt plus
+  unfolding AloneBits Sound columnLookedAt bitOf
   solid-column e =
       let bit = d .alone 0 (lit≤ tt) in
+      no-bit (d .sound 0 (lit≤ tt) first) (middleSolid K ray 1024 0) (sym (rw e at bit))
+
+  -- and by the exact field at the middle of tick 0
+  pub solid-middle : getD after 0 0 ≡ 255 → ⊥
+  unfolding AloneBits Middles columnLookedAt plus
+  solid-middle e =
+      let bit = d .alone 0 (lit≤ tt) in
       let h = rw (middle-is .0, middle-is .1, start-is .0) at (d .middles 0 (lit≤ tt) .sound .solid (sym (rw e at bit))) in
+      h .cross .le
+
+  -- bounds at a middle that do not enclose the field there
+  pub middle-outside : treeBounds K ray (middle 512 1024) .high ≡ pos 0 → ⊥
+  unfolding Middles columnLookedAt
+  middle-outside e =
+      let h = rw (e, middle-is .2) at (d .middles 512 (lit≤ tt) .encloses .below) in
       h .cross .le
 
   pub column-probes : (probes ≡ 39 → ⊥) → ⊥

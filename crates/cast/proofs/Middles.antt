@@ -1,14 +1,14 @@
 -- The middle of a tick, for every valid solid and every number of ticks: a place of the tick (`middle-inside`), at which the two bounds enclose the
 -- exact field and the tick's bit is right of it but for the rounding (`middle-says`). A decided tick's middle is decided alike, so that a tick's bit
 -- is its middle's whatever its mark (`bit-is-middle`).
-use mathlib.Core.Path.{_≡_, refl, sym, _∙_}
+use mathlib.Core.Path.{_≡_, refl}
 use mathlib.Core.Logic.{inl, inr}
-use mathlib.Core.Bool.{Bool, true, false, cond}
+use mathlib.Core.Bool.{true, false, cond}
 use Prim.Native.Nat.{ℕ, _+_, _*_, _≤_}
 use native.Mathlib.Nat.{le-of-eq, mul-comm}
 use native.Mathlib.Omega.{arith}
 use lib.IntN.{pos, _+ℤ_}
-use lib.Signed.{leZ, _≤ℤ_, _<ℤ_}
+use lib.Signed.{_≤ℤ_, _<ℤ_}
 use Rattle.exact.proofs.Ring.{_⊕_, _⊗_, #}
 use Rattle.exact.proofs.Order.{nn-pos, pos-reflect}
 use Rattle.exact.proofs.Certificates.{_≦_by_, le}
@@ -28,7 +28,7 @@ use Rattle.field.proofs.Enclosure.{enclosure}
 use Rattle.field.proofs.Nested.{state-nested}
 use Rattle.field.proofs.Tolerance.{narrow-place}
 use Rattle.cast.specs.Column.{middleSolid, tickBit, bitOf}
-use Rattle.cast.specs.Demands.{SoundBit, MiddleSays}
+use Rattle.cast.specs.Demands.{MiddleSays}
 
 -- ---- a place of the tick
 

@@ -1,10 +1,6 @@
 -- `cast_column`: the cast is complete, so its probes are the ray's and the marks that are packed are all the ray's.
-use mathlib.Core.Path.{ap, _∙_}
-use mathlib.Core.List.{List, _++_}
-use Prim.Native.Nat.{ℕ}
-use lib.ListN.{drop}
+use mathlib.Core.Path.{_∙_}
 use borrow.Author.Needs.{needs}
-use Rattle.cast.specs.Column.{columnBytes, bitIn, packed}
 use Rattle.halving.specs.Search.{stateIn}
 use Rattle.cast.proofs.Columns.{all-probes, all-marks}
 use Rattle.cast.proofs.cast_column.Statement.{statement}
@@ -18,9 +14,7 @@ returns c =
     let a = s .args in
     let st = stateIn (a .prepared .now) (a .s) in (
       c .probes-of .ensures ∙ all-probes st (s .pre .1 .0 .1) (s .pre .1 .0 .0) (w .result) (w .ensures .0),
-      c .before .before .before .pack .ensures
-          ∙ ap (λ (ms : List ℕ). packed (bitIn (a .prepared .now) (a .s) ms) columnBytes ++ drop columnBytes (a .out .now))
-          (all-marks st (s .pre .1 .0 .1) (s .pre .1 .0 .0) (w .result) (w .ensures .0) _ (w .ensures .1)),
+      rw (all-marks st (s .pre .1 .0 .1) (s .pre .1 .0 .0) (w .result) (w .ensures .0) _ (w .ensures .1)) at (c .before .before .before .pack .ensures),
     )
 
 pub cast-column-spec : {M : Type 1} → statement M

@@ -4,7 +4,6 @@ use native.Mathlib.Nat.{add-zero, two-pow-succ, pow-le-pow-right}
 use native.Mathlib.Numerals.{add-one}
 use native.Mathlib.Omega.{arith}
 use mathlib.Core.Path.{_≡_, refl, ap}
-use borrow.Author.Needs.{needs}
 use Rattle.cast.specs.Column.{bitIn, fromBits}
 use Rattle.cast.proofs.pack_byte.Statement.{statement}
 use Rattle.cast.proofs.pack_byte.Tie as tie
