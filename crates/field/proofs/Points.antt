@@ -176,7 +176,7 @@ module _ (k : Kernel) (law : Lawful k) (ray : Ray) (p : Node) (hr : 1 ≤ radius
 
   pub rounding-nn : pos 0 ≤ℤ roundingOf k p .num
   unfolding roundingOf
-  rounding-nn = nn-mul (nn-pos (natAbs (p .weight))) (law .slack-nn)
+  rounding-nn = nn-mul (nn-pos _) (law .slack-nn)
 
   pub place-narrow : {s : Span} → Ordered s → s .from ≡ s .to → NoWider (on s) (roundingOf k p)
   unfolding roundingOf
