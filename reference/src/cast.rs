@@ -2,9 +2,10 @@
 //! probes, the halving search and the budget. The marching cast, in
 //! [`crate::march`], shares the questions, the marks and the buffer's handling.
 //!
-//! A search asks a [`SpanBounds`] for the bounds of spans. `full_cast_by`,
-//! `first_hit_by` and `column_by` are told which: `ExactField`, the fractions,
-//! or `TickField`, the quick one, which the calls without `_by` take.
+//! A search asks a [`SpanBounds`] for the bounds of spans, and a column for those at
+//! the middles of crossing ticks. `full_cast_by`, `first_hit_by` and `column_by` are
+//! told which: `ExactField`, the fractions, or `TickField`, the quick one, which the
+//! calls without `_by` take.
 
 use crate::field::{place_bounds, tick_bounds, whole_place, Bounds, Ray, SpanBounds};
 use crate::part::{read, Part, REACH};
@@ -208,6 +209,13 @@ pub fn judge_tick(part: &Part, ray: &Ray, tick: u32) -> Option<Mark> {
     Some(judge(bounds, part.iso))
 }
 
+/// Whether a crossing tick is solid, by the bounds at its exact middle: they add
+/// up to at least 2 iso 2^32.
+pub fn middle_solid(bounds: Bounds, iso: u16) -> bool {
+    let sum = i128::from(bounds.low) + i128::from(bounds.high);
+    sum >= 2 * i128::from(iso) * 4_294_967_296
+}
+
 /// The probe count of a finished span, as the rule defines it: 1 if decided
 /// or one tick long, else 1 and the counts of the halves.
 pub fn probe_count(part: &Part, ray: &Ray, first: u32, after: u32) -> Option<u32> {
@@ -231,13 +239,12 @@ pub(crate) enum End {
 /// The halving search over the whole ray, left half first. `settle` gets each
 /// settled span (first tick, tick after the last, mark) in order and says
 /// whether to go on. Answers the end and the probes made.
-fn search<F: SpanBounds>(
-    part: &Part,
-    ray: &Ray,
+fn search(
+    field: &impl SpanBounds,
+    iso: u16,
     budget: Option<u32>,
     mut settle: impl FnMut(u32, u32, Mark) -> bool,
 ) -> Option<(End, u32)> {
-    let field = F::new(part, *ray);
     let mut waiting = vec![(0, TICKS)];
     let mut probes = 0;
     while let Some((first, after)) = waiting.pop() {
@@ -245,7 +252,7 @@ fn search<F: SpanBounds>(
             return Some((End::Spent(first), probes));
         }
         probes += 1;
-        let mark = judge(field.bounds(first, after)?, part.iso);
+        let mark = judge(field.bounds(first, after)?, iso);
         if mark == Mark::Crossing && after - first > 1 {
             let middle = first + (after - first) / 2;
             waiting.push((middle, after));
@@ -270,7 +277,8 @@ pub fn full_cast_by<F: SpanBounds>(
     buffer: &mut [u8],
 ) -> FullCast {
     let cast = marks_by(file, ray, buffer, |part, settle| {
-        search::<F>(part, ray, Some(budget), |first, after, mark| {
+        let field = F::new(part, *ray);
+        search(&field, part.iso, Some(budget), |first, after, mark| {
             settle(first, after, mark);
             true
         })
@@ -322,7 +330,8 @@ pub(crate) fn hit<F: SpanBounds>(part: &Part, ray: &Ray, budget: u32) -> FirstHi
         }
         mark == Mark::Empty
     };
-    let Some((end, probes)) = search::<F>(part, ray, Some(budget), settle) else {
+    let field = F::new(part, *ray);
+    let Some((end, probes)) = search(&field, part.iso, Some(budget), settle) else {
         return FirstHit::Refused(11);
     };
     match (end, found) {
@@ -332,7 +341,8 @@ pub(crate) fn hit<F: SpanBounds>(part: &Part, ray: &Ray, budget: u32) -> FirstHi
     }
 }
 
-/// Column: 128 bytes into `buffer`, one bit for each tick.
+/// Column: 128 bytes into `buffer`, one bit for each tick: 1 if it is solid. An
+/// inside tick is, an empty one is not, and a crossing one is by its middle.
 pub fn column(file: &[u8], ray: &Ray, buffer: &mut [u8]) -> Column {
     column_by::<TickField>(file, ray, buffer)
 }
@@ -345,16 +355,22 @@ pub fn column_by<F: SpanBounds>(file: &[u8], ray: &Ray, buffer: &mut [u8]) -> Co
 fn try_column<F: SpanBounds>(file: &[u8], ray: &Ray, buffer: &mut [u8]) -> Result<Column, u32> {
     let part = accept(file, ray)?;
     let bits = room(buffer, COLUMN_BYTES)?;
-    let mut work = [0u8; COLUMN_BYTES];
+    let field = F::new(&part, *ray);
+    let mut marks = Vec::new();
     let settle = |first: u32, after: u32, mark: Mark| {
-        for tick in first..after {
-            if mark != Mark::Empty {
-                work[(tick / 8) as usize] |= 1 << (tick % 8);
-            }
-        }
+        marks.extend((first..after).map(|_| mark));
         true
     };
-    let (_, probes) = search::<F>(&part, ray, None, settle).ok_or(11u32)?;
+    let (_, probes) = search(&field, part.iso, None, settle).ok_or(11u32)?;
+    let mut work = [0u8; COLUMN_BYTES];
+    for (tick, mark) in (0..).zip(marks) {
+        let solid = match mark {
+            Mark::Empty => false,
+            Mark::Crossing => middle_solid(field.middle(tick).ok_or(11u32)?, part.iso),
+            Mark::Inside => true,
+        };
+        work[tick as usize / 8] |= u8::from(solid) << (tick % 8);
+    }
     bits.copy_from_slice(&work);
     Ok(Column::Done { probes })
 }

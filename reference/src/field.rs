@@ -267,16 +267,30 @@ pub fn tick_bounds(part: &Part, ray: &Ray, first: u32, after: u32) -> Option<Bou
     span_bounds(part, ray, &start_of(first)?, &start_of(after)?)
 }
 
-/// Bounds of spans of whole ticks of one ray.
+/// The fraction of the way at which the exact middle of tick `tick` lies.
+pub fn middle_of(tick: u32) -> Option<Fraction> {
+    Fraction::new(2 * i128::from(tick) + 1, 2048)
+}
+
+/// The bounds of the part's tree at the exact middle of a tick.
+pub fn middle_bounds(part: &Part, ray: &Ray, tick: u32) -> Option<Bounds> {
+    place_bounds(part, &ray.place(&middle_of(tick)?))
+}
+
+/// Bounds of spans of whole ticks of one ray, and at the middles of ticks.
 pub trait SpanBounds {
     /// Prepares the ray through a part.
     fn new(part: &Part, ray: Ray) -> Self;
 
     /// The bounds over the ticks from `first` up to, not including, `after`.
     fn bounds(&self, first: u32, after: u32) -> Option<Bounds>;
+
+    /// The bounds at the exact middle of a tick.
+    fn middle(&self, tick: u32) -> Option<Bounds>;
 }
 
-/// Those bounds by fractions, each worked out afresh by `tick_bounds`.
+/// Those bounds by fractions, each worked out afresh by `tick_bounds` and
+/// `middle_bounds`.
 pub struct ExactField {
     part: Part,
     ray: Ray,
@@ -291,12 +305,25 @@ impl SpanBounds for ExactField {
     fn bounds(&self, first: u32, after: u32) -> Option<Bounds> {
         tick_bounds(&self.part, &self.ray, first, after)
     }
+
+    fn middle(&self, tick: u32) -> Option<Bounds> {
+        middle_bounds(&self.part, &self.ray, tick)
+    }
 }
 
 /// The greatest distance of the field from iso in a crossing tick: over the
 /// points, |w| (S/(256 r) + 1/16384).
 pub fn tolerance(nodes: &[Node], ray: &Ray) -> Option<Fraction> {
-    let spread = i128::from(ray.spread());
+    tolerance_for(nodes, ray.spread())
+}
+
+/// The part of it that is for the rounding at one place: with S equal to 0.
+pub fn rounding(nodes: &[Node]) -> Option<Fraction> {
+    tolerance_for(nodes, 0)
+}
+
+fn tolerance_for(nodes: &[Node], spread: i64) -> Option<Fraction> {
+    let spread = i128::from(spread);
     let mut total = Fraction::zero();
     for point in nodes.iter().filter(|node| node.kind == Kind::Point) {
         let slope = Fraction::new(spread, 256 * i128::from(point.r))?;

@@ -1,21 +1,22 @@
-//! The quick path, for volume: bounds of spans of whole ticks, with q at their
-//! ends worked out in whole numbers.
+//! The quick path, for volume: bounds of spans of whole ticks and at the middles
+//! of ticks, with q at their ends and there worked out in whole numbers.
 //!
-//! Coordinates are taken in 1/1024 steps, so squared distances are scaled by
-//! 1024^2, as the delivered crates scale them; in that the path is not
-//! independent of them. The nearest places, and q there, come from the
-//! fractions.
+//! Coordinates are taken in 1/1024 steps, for middles in 1/2048 steps, so squared
+//! distances are scaled by 1024^2 and 2048^2, as the delivered crates scale them;
+//! in that the path is not independent of them. The nearest places, and q there,
+//! come from the fractions.
 
 use crate::field::{
-    nearest, q_high, q_range, start_of, tree_bounds, u_at, u_range, Bounds, Ray, SpanBounds,
+    middle_of, nearest, q_high, q_range, start_of, tree_bounds, u_at, u_range, Bounds, Ray,
+    SpanBounds,
 };
 use crate::fraction::Fraction;
 use crate::part::{Kind, Node, Part};
 use std::cmp::Ordering;
 
-/// Bounds of spans of whole ticks of one ray, with each point's nearest place
-/// kept. Span ends are worked out in checked `i64`; where that overflows the
-/// fractions serve.
+/// Bounds of spans of whole ticks of one ray and at the middles of ticks, with each
+/// point's nearest place kept. Span ends and middles are worked out in checked `i64`;
+/// where that overflows the fractions serve.
 pub struct TickField {
     part: Part,
     ray: Ray,
@@ -51,6 +52,13 @@ impl SpanBounds for TickField {
             quick.or_else(|| self.slow_range(point, first, after))
         })
     }
+
+    fn middle(&self, tick: u32) -> Option<Bounds> {
+        tree_bounds(&self.part, |_, point| {
+            let quick = self.quick_q(point, 2 * tick + 1, 2048);
+            quick.or_else(|| self.slow_q(point, tick))
+        })
+    }
 }
 
 impl TickField {
@@ -63,8 +71,8 @@ impl TickField {
         after: u32,
     ) -> Option<(i64, i64)> {
         let kept = self.nearest.get(index)?.as_ref()?;
-        let (first_low, first_high) = self.quick_q(point, first)?;
-        let (after_low, after_high) = self.quick_q(point, after)?;
+        let (first_low, first_high) = self.quick_q(point, first, 1024)?;
+        let (after_low, after_high) = self.quick_q(point, after, 1024)?;
         let (from, to) = (start_of(first)?, start_of(after)?);
         let high = match (kept.s.cmp(&from), kept.s.cmp(&to)) {
             (Ordering::Less, _) => first_high,
@@ -74,19 +82,19 @@ impl TickField {
         Some((first_low.min(after_low), high))
     }
 
-    /// 65536 u rounded down and up where tick `tick` begins. Coordinates are
-    /// taken in 1/1024 steps.
-    fn quick_q(&self, point: &Node, tick: u32) -> Option<(i64, i64)> {
+    /// 65536 u rounded down and up at the place n/m of the way. Coordinates are
+    /// taken in 1/m steps.
+    fn quick_q(&self, point: &Node, n: u32, m: i64) -> Option<(i64, i64)> {
         let centre = [point.x, point.y, point.z];
         let differences = self.ray.differences();
         let mut distance: i64 = 0;
         for i in 0..3 {
             let start = i64::from(self.ray.a[i]).checked_sub(i64::from(centre[i]))?;
-            let way = differences[i].checked_mul(i64::from(tick))?;
-            let offset = start.checked_mul(1024)?.checked_add(way)?;
+            let way = differences[i].checked_mul(i64::from(n))?;
+            let offset = start.checked_mul(m)?.checked_add(way)?;
             distance = distance.checked_add(offset.checked_mul(offset)?)?;
         }
-        let radius = i64::from(point.r).checked_mul(1024)?;
+        let radius = i64::from(point.r).checked_mul(m)?;
         let whole = radius.checked_mul(radius)?;
         if distance >= whole {
             return Some((0, 0));
@@ -100,5 +108,10 @@ impl TickField {
         let (from, to) = (start_of(first)?, start_of(after)?);
         let (least, greatest) = u_range(&self.ray, point, &from, &to);
         Some(q_range(&least, &greatest))
+    }
+
+    fn slow_q(&self, point: &Node, tick: u32) -> Option<(i64, i64)> {
+        let u = u_at(&self.ray.place(&middle_of(tick)?), point);
+        Some(q_range(&u, &u))
     }
 }

@@ -1,10 +1,10 @@
 //! The exact range of u and the bounds: enclosing, nested, attained, and the
 //! quick path equal to the fractions.
 
-use reference::cast::bounds_at;
+use reference::cast::{bounds_at, full_cast};
 use reference::field::{
-    field_at, field_on_ray, nearest, place_bounds, span_bounds, tick_bounds, tolerance, u_at,
-    u_range, whole_place, Bounds, Ray, SpanBounds,
+    field_at, field_on_ray, middle_bounds, middle_of, nearest, place_bounds, rounding, span_bounds,
+    tick_bounds, tolerance, u_at, u_range, whole_place, Bounds, ExactField, Ray, SpanBounds,
 };
 use reference::fraction::Fraction;
 use reference::generate::{self, Shape, SplitMix64, STYLES};
@@ -203,6 +203,61 @@ fn quick_bounds_equal_the_fractions() {
     });
 }
 
+/// The bounds at the middle of a tick, by the quick path, by the fractions and as
+/// those of a span of one place.
+fn compare_middle(quick: &TickField, part: &Part, ray: &Ray, tick: u32) -> Bounds {
+    let s = middle_of(tick).expect("a middle");
+    let bounds = middle_bounds(part, ray, tick);
+    assert_eq!(span_bounds(part, ray, &s, &s), bounds, "{tick} {ray:?}");
+    assert_eq!(ExactField::new(part, *ray).middle(tick), bounds);
+    assert_eq!(quick.middle(tick), bounds, "{tick} {ray:?} {part:?}");
+    bounds.expect("a tree")
+}
+
+/// The middles of crossing ticks, up to 60 of a ray, and of two others. How many
+/// crossing ones there were, and of how many the bounds differ.
+fn compare_middles(random: &mut SplitMix64, part: &Part, ray: &Ray) -> [u32; 2] {
+    let quick = TickField::new(part, *ray);
+    let mut marks = [9; 1024];
+    full_cast(&FileBuilder::from(part).build(), ray, 2047, &mut marks);
+    let crossing = (0..1024u32).filter(|&t| marks[t as usize] == 1).take(60);
+    let mut seen = [0; 2];
+    for tick in crossing {
+        let Bounds { low, high } = compare_middle(&quick, part, ray, tick);
+        seen = [seen[0] + 1, seen[1] + u32::from(low < high)];
+    }
+    for _ in 0..2 {
+        compare_middle(&quick, part, ray, random.between(0, 1023) as u32);
+    }
+    seen
+}
+
+#[test]
+fn middles_of_ticks() {
+    let start = |tick: u32| fraction(tick.into(), 1024);
+    for tick in 0..1024 {
+        let middle = middle_of(tick).expect("a middle");
+        assert_eq!(&middle - &start(tick), &start(tick + 1) - &middle);
+    }
+}
+
+#[test]
+fn quick_middles_equal_the_fractions() {
+    let mut seen = [0; 2];
+    let mut add = |more: [u32; 2]| seen = [seen[0] + more[0], seen[1] + more[1]];
+    for_cases(58, 60, |random, part, ray| {
+        add(compare_middles(random, part, ray))
+    });
+    let mut random = SplitMix64::new(59);
+    for i in 0..600 {
+        let part = generate::cancelling_or_bored(&mut random);
+        let ray = generate::ray(&mut random, &part, STYLES[i % STYLES.len()]);
+        add(compare_middles(&mut random, &part, &ray));
+    }
+    println!("{seen:?}");
+    assert!(seen[0] > 4_000 && seen[1] > 3_500, "{seen:?}");
+}
+
 /// Coordinates far outside the rules, where `i64` overflows.
 #[test]
 fn quick_bounds_fall_back_to_the_fractions() {
@@ -217,6 +272,7 @@ fn quick_bounds_fall_back_to_the_fractions() {
         let slow = tick_bounds(&part, &ray, first, after);
         assert!(slow.is_some());
         assert_eq!(field.bounds(first, after), slow);
+        compare_middle(&field, &part, &ray, first);
     }
 }
 
@@ -265,6 +321,7 @@ fn exact_values() {
     let expected = &fraction(2 * 625 * 6, 1280) + &fraction(2 * 625, 16384);
     let expected = &expected + &(&fraction(600, 2560) + &fraction(100, 16384));
     assert_eq!(tolerance(&part.nodes, &ray), Some(expected));
+    assert_eq!(rounding(&part.nodes), Some(fraction(2 * 625 + 100, 16384)));
 }
 
 #[test]

@@ -9,7 +9,18 @@ use reference::cast::{
 use reference::field::{Bounds, Ray};
 use reference::lister::{input, list};
 use reference::part::{check, FileBuilder};
+use std::ops::Range;
 use worked::{at_y, file_k, AXIS};
+
+/// The first and the last tick whose bit is set, with every bit between them.
+fn solid(bits: &[u8]) -> Range<usize> {
+    let bit = |tick: &usize| bits[tick / 8] >> (tick % 8) & 1 == 1;
+    let ticks: Vec<usize> = (0..8 * bits.len()).filter(bit).collect();
+    let after = ticks.last().map_or(0, |last| last + 1);
+    let all = ticks.first().map_or(0, |first| *first)..after;
+    assert!(all.clone().eq(ticks));
+    all
+}
 
 fn both(low: i64, high: i64) -> Result<Bounds, u32> {
     Ok(Bounds { low, high })
@@ -115,6 +126,18 @@ fn y_362_crosses_inside_509_and_514() {
     expected[63] = 0b1110_0000;
     expected[64] = 0b0000_0111;
     assert_eq!(bits, expected);
+}
+
+/// The surface is 362.04 steps from the centre: 363 steps, the middle of ticks 330
+/// and 693, are outside it. At y = 362 it is 5.3 steps from the axis: 5 steps, the
+/// middle of ticks 509 and 514, are inside it.
+#[test]
+fn solid_ticks_of_file_k() {
+    for (y, ticks) in [(0, 331..693), (362, 509..515), (512, 0..0)] {
+        let mut bits = [9; COLUMN_BYTES];
+        column(&file_k(), &at_y(y), &mut bits);
+        assert_eq!(solid(&bits), ticks);
+    }
 }
 
 #[test]
@@ -247,7 +270,7 @@ fn buffer_lengths() {
         let mut buffer = vec![9; length];
         let done = column(&k, &AXIS, &mut buffer);
         assert_eq!(done, Column::Done { probes: 39 });
-        assert_eq!(buffer[41], 0b1111_1100);
+        assert_eq!(solid(&buffer[..128]), 331..693);
         assert!(buffer[128..].iter().all(|&b| b == 9));
     }
 }

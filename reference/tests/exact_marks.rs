@@ -1,22 +1,29 @@
 //! The marks against the exact field at fractional places: empty means below
-//! iso, inside means at least iso, crossing means within the tolerance.
+//! iso, inside means at least iso, crossing means within the tolerance. And a
+//! column's bits against the exact field at the middles of ticks: solid means at
+//! least iso, the others below iso, but for the rounding.
 
 use reference::cast::{column, first_hit, full_cast, FirstHit, FullCast};
-use reference::field::{field_at, nearest, tolerance, Ray};
+use reference::field::{field_at, field_on_ray, nearest, rounding, tolerance, Ray};
 use reference::fraction::Fraction;
 use reference::generate::{self, Shape, SplitMix64, Style, OVERLAPPING, STYLES};
 use reference::march::marching_cast;
 use reference::part::{FileBuilder, Kind, Node, Part};
 
 /// One ray of one part with the marks of a full cast and a marching cast: those of
-/// the one that looked at more ticks.
+/// the one that looked at more ticks; and with the bits of a column.
 struct Case {
     part: Part,
     ray: Ray,
     marks: [u8; 1024],
     looked_at: u32,
+    bits: [u8; 128],
     tolerance: Fraction,
+    rounding: Fraction,
     seen: [u64; 3],
+    /// Crossing ticks by their bits, and those whose bit is not the one that the
+    /// exact field alone would give.
+    crossing: [u64; 3],
 }
 
 fn fraction(num: i128, den: i128) -> Fraction {
@@ -46,14 +53,20 @@ impl Case {
         casts.sort_by_key(|(looked_at, _)| *looked_at);
         let [(fewer, first), (looked_at, marks)] = casts;
         assert_eq!(first[..fewer as usize], marks[..fewer as usize]);
+        let mut bits = [9; 128];
+        assert!(column(&file, &ray, &mut bits).probes().is_some());
         let tolerance = tolerance(&part.nodes, &ray).expect("a tree").reduced();
+        let rounding = rounding(&part.nodes).expect("a tree").reduced();
         Case {
             part,
             ray,
             marks,
             looked_at,
+            bits,
             tolerance,
+            rounding,
             seen: [0; 3],
+            crossing: [0; 3],
         }
     }
 
@@ -75,6 +88,33 @@ impl Case {
             self.ray, self.part
         );
         self.seen[mark as usize] += 1;
+    }
+
+    /// Checks the bit of tick t at its middle: of a solid tick the field there is
+    /// at least iso minus the rounding, of another it is below iso plus the rounding.
+    fn check_bit(&mut self, t: u32) {
+        let (n, mark) = (i64::from(2 * t + 1), self.marks[t as usize]);
+        let field = field_on_ray(&self.part, &self.ray, n, 2048).expect("a tree");
+        let iso = Fraction::from(i64::from(self.part.iso));
+        let solid = self.bits[t as usize / 8] >> (t % 8) & 1 == 1;
+        let right = match solid {
+            true => &field + &self.rounding >= iso,
+            false => field < &iso + &self.rounding,
+        };
+        let (ray, part) = (&self.ray, &self.part);
+        assert!(
+            right,
+            "solid {solid}, tick {t}, field {field}, {ray:?}, {part:?}"
+        );
+        match mark {
+            1 => {
+                self.crossing[usize::from(solid)] += 1;
+                self.crossing[2] += u64::from(solid != (field >= iso));
+            }
+            // a budget that ran out leaves other ticks unmarked
+            0 | 2 => assert_eq!(solid, mark == 2, "tick {t}, {ray:?}, {part:?}"),
+            _ => {}
+        }
     }
 
     /// The place n/m with the least n that tick t holds, if there is one.
@@ -133,32 +173,50 @@ impl Case {
         for t in (0..self.looked_at).filter(|t| t % stride == 0) {
             self.check_tick(t, odd);
         }
+        let marks = self.marks;
+        let crossing = |t: &u32| marks[*t as usize] == 1;
+        for t in (0..1024).filter(|t| t % stride == 0 || crossing(t)) {
+            self.check_bit(t);
+        }
         self.check_changes();
         self.check_nearest();
     }
 }
 
-/// The places seen with each mark: in all parts, in those with a lesser and in
-/// those with a cut.
+/// What was seen.
 #[derive(Debug, Default)]
-struct Seen([[u64; 3]; 3]);
+struct Seen {
+    /// The places with each mark: in all parts, in those with a lesser and in those
+    /// with a cut.
+    places: [[u64; 3]; 3],
+    /// As of a case.
+    crossing: [u64; 3],
+}
 
 impl Seen {
     fn add(&mut self, case: &Case) {
         let has = |kind| case.part.nodes.iter().any(|node| node.kind == kind);
         let counts = [true, has(Kind::Lesser), has(Kind::Cut)];
-        for (places, _) in self.0.iter_mut().zip(counts).filter(|(_, c)| *c) {
+        for (places, _) in self.places.iter_mut().zip(counts).filter(|(_, c)| *c) {
             *places = [0, 1, 2].map(|mark| places[mark] + case.seen[mark]);
         }
+        self.crossing = [0, 1, 2].map(|i| self.crossing[i] + case.crossing[i]);
     }
 
     /// Each mark has more places than these: in all parts, and in those with a
     /// lesser as in those with a cut.
-    fn assert_more(&self, in_all: u64, with_either: u64) {
+    fn assert_more(&self, in_all: u64, with_either: u64) -> &Seen {
+        println!("{self:?}");
         let least = [in_all, with_either, with_either];
-        for (places, least) in self.0.iter().zip(least) {
+        for (places, least) in self.places.iter().zip(least) {
             assert!(places.iter().all(|&n| n > least), "{self:?}");
         }
+        self
+    }
+
+    /// More crossing ticks than so many are solid, and more are not.
+    fn assert_bits(&self, least: u64) {
+        assert!(self.crossing[..2].iter().all(|&n| n > least), "{self:?}");
     }
 }
 
@@ -189,12 +247,16 @@ fn few_points() {
         weight: (-6, 30),
         iso: (1, 6),
     };
-    run(31, &shape, 120, 1).assert_more(10_000, 200);
+    run(31, &shape, 120, 1)
+        .assert_more(10_000, 200)
+        .assert_bits(100);
 }
 
 #[test]
 fn overlapping_points() {
-    run(39, &OVERLAPPING, 250, 32).assert_more(8_000, 1_500);
+    run(39, &OVERLAPPING, 250, 32)
+        .assert_more(8_000, 1_500)
+        .assert_bits(300);
 }
 
 #[test]
@@ -206,7 +268,9 @@ fn small_radii() {
         weight: (-9, 40),
         iso: (1, 5),
     };
-    run(32, &shape, 70, 1).assert_more(2_000, 100);
+    run(32, &shape, 70, 1)
+        .assert_more(2_000, 100)
+        .assert_bits(50);
 }
 
 #[test]
@@ -218,7 +282,9 @@ fn large_weights() {
         weight: (-4096, 4096),
         iso: (1, 900),
     };
-    run(33, &shape, 60, 1).assert_more(1_000, 50);
+    run(33, &shape, 60, 1)
+        .assert_more(1_000, 50)
+        .assert_bits(30);
 }
 
 #[test]
@@ -230,7 +296,7 @@ fn deep_trees() {
         weight: (-5, 12),
         iso: (1, 5),
     };
-    run(34, &shape, 20, 4).assert_more(500, 200);
+    run(34, &shape, 20, 4).assert_more(500, 200).assert_bits(20);
 }
 
 #[test]
@@ -268,17 +334,47 @@ fn run_drawn(seed: u64, count: usize, part: fn(&mut SplitMix64) -> Part) -> Seen
 
 #[test]
 fn cancelling_points() {
-    let Seen([all, _, cut]) = run_drawn(37, 120, generate::cancelling);
+    let seen = run_drawn(37, 120, generate::cancelling);
+    let [all, _, cut] = seen.places;
     assert!(all.iter().all(|&n| n > 5_000), "{all:?}");
     assert!(cut.iter().all(|&n| n > 1_000), "{cut:?}");
+    seen.assert_bits(1_000);
 }
 
 #[test]
 fn bored_parts() {
-    run_drawn(38, 120, generate::bored).assert_more(1_500, 1_500);
+    run_drawn(38, 120, generate::bored)
+        .assert_more(1_500, 1_500)
+        .assert_bits(50);
 }
 
-/// A first hit and a column claim the same of the field as the full cast.
+/// The bits of crossing ticks on rays of each style through parts of many kinds. The
+/// rounding settles some of them, where the field is next to iso.
+#[test]
+fn bits_at_middles() {
+    let mut random = SplitMix64::new(61);
+    let mut seen = Seen::default();
+    for i in 0..4_000 {
+        let part = match i % 4 {
+            0 => generate::part(&mut random, &OVERLAPPING),
+            1 => generate::bored(&mut random),
+            _ => generate::cancelling(&mut random),
+        };
+        let ray = generate::ray(&mut random, &part, STYLES[i / 4 % STYLES.len()]);
+        let mut case = Case::new(part, ray, 2052);
+        let crossing = (0..1024).filter(|&t| case.marks[t as usize] == 1);
+        for t in crossing.collect::<Vec<u32>>() {
+            case.check_bit(t);
+        }
+        seen.add(&case);
+    }
+    println!("{:?}", seen.crossing);
+    seen.assert_bits(20_000);
+    assert!(seen.crossing[2] > 100, "{seen:?}");
+}
+
+/// A first hit claims the same of the field as the full cast, and a column of the
+/// ticks that are decided.
 #[test]
 fn hits_and_columns_hand_over_the_same_marks() {
     let mut random = SplitMix64::new(36);
@@ -293,12 +389,10 @@ fn hits_and_columns_hand_over_the_same_marks() {
         let part = generate::part(&mut random, &shape);
         let ray = generate::ray(&mut random, &part, STYLES[i % STYLES.len()]);
         let file = FileBuilder::from(&part).build();
-        let mut bits = [0; 128];
-        column(&file, &ray, &mut bits);
         let mut case = Case::new(part, ray, 2052);
         for t in 0..1024 {
-            let bit = bits[t / 8] >> (t % 8) & 1;
-            assert_eq!(bit == 1, case.marks[t] != 0);
+            let bit = case.bits[t / 8] >> (t % 8) & 1;
+            assert!(case.marks[t] == 1 || case.marks[t] == 2 * bit);
         }
         if let FirstHit::Hit { tick, mark, .. } = first_hit(&file, &ray, 2047) {
             case.marks[tick as usize] = mark.byte();

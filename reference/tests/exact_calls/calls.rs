@@ -4,7 +4,7 @@
 //! call is made twice, plain and counted.
 
 use crate::entries;
-use crate::guards::in_guards;
+use crate::guards::{in_guards, GUARD};
 use reference::cast::{bounds_at, column_by, first_hit_by, full_cast_by};
 use reference::cast::{Column, FirstHit, FullCast};
 use reference::field::{Bounds, ExactField, Ray};
@@ -107,8 +107,15 @@ impl Host {
     }
 
     /// A column.
+    #[allow(dead_code)]
     pub fn column(&mut self, file: &[u8], ray: &Ray, room: usize) -> Column {
+        self.column_and_bits(file, ray, room).0
+    }
+
+    /// A column, and the bytes of its buffer.
+    pub fn column_and_bits(&mut self, file: &[u8], ray: &Ray, room: usize) -> (Column, Vec<u8>) {
         let (answer, bytes) = in_guards(room, |b| column_by::<ExactField>(file, ray, b));
+        let bits = bytes[GUARD..GUARD + room].to_vec();
         let expected = (answer.number(), bytes);
         let copy = file.to_vec();
         let plain = in_guards(room, |b| entries::column(&copy, ray, b));
@@ -118,7 +125,7 @@ impl Host {
         assert_eq!(counted, expected, "{ray:?} {file:?}");
         assert_eq!(copy, file);
         self.count(answer.probes());
-        answer
+        (answer, bits)
     }
 
     /// A viewer's first hit.

@@ -22,9 +22,15 @@ fn runs(marks: &[u8]) -> Vec<(u8, usize, usize)> {
     runs
 }
 
+/// The ticks whose bits are set.
+fn solid(bits: &[u8]) -> Vec<usize> {
+    let bit = |tick: &usize| bits[tick / 8] >> (tick % 8) & 1 == 1;
+    (0..8 * bits.len()).filter(bit).collect()
+}
+
 /// A full cast and a column complete with these probes, the cast with these runs,
-/// and a marching cast with the same runs.
-fn assert_cast(file: &[u8], ray: &Ray, probes: u32, expected: &[(u8, usize, usize)]) {
+/// and a marching cast with the same runs. The bits that the column sets.
+fn assert_cast(file: &[u8], ray: &Ray, probes: u32, expected: &[(u8, usize, usize)]) -> Vec<usize> {
     let mut host = Host::default();
     for room in [1024, 1030] {
         let (cast, marks) = host.full_cast(file, ray, 2047, room);
@@ -34,7 +40,9 @@ fn assert_cast(file: &[u8], ray: &Ray, probes: u32, expected: &[(u8, usize, usiz
         assert!(matches!(cast, FullCast::Complete { .. }));
         assert_eq!(runs(&marks), expected);
     }
-    assert_eq!(host.column(file, ray, 128), Column::Done { probes });
+    let (column, bits) = host.column_and_bits(file, ray, 128);
+    assert_eq!(column, Column::Done { probes });
+    solid(&bits)
 }
 
 /// All casting calls refuse with the number, the viewer's with 15 for 12.
@@ -77,8 +85,10 @@ fn rays_of_file_k() {
         (1, 693, 694),
         (0, 694, 1024),
     ];
-    assert_cast(&k, &AXIS, 39, &axis);
-    assert_cast(&k, &at_y(512), 1, &[(0, 0, 1024)]);
+    let bits = assert_cast(&k, &AXIS, 39, &axis);
+    assert!(bits.into_iter().eq(331..=692));
+    let bits = assert_cast(&k, &at_y(512), 1, &[(0, 0, 1024)]);
+    assert!(bits.is_empty());
     let near = [
         (0, 0, 509),
         (1, 509, 510),
@@ -86,7 +96,8 @@ fn rays_of_file_k() {
         (1, 514, 515),
         (0, 515, 1024),
     ];
-    assert_cast(&k, &at_y(362), 39, &near);
+    let bits = assert_cast(&k, &at_y(362), 39, &near);
+    assert!(bits.into_iter().eq(509..=514));
     let clear = Host::default().first_hit(&k, &at_y(512), 2047);
     assert_eq!(clear, FirstHit::Clear { probes: 1 });
 }
@@ -143,7 +154,8 @@ fn weights_4_and_minus_4_cancel() {
     let (cast, _) = host.full_cast(&file, &AXIS, 2047, 1024);
     let probes = cast.probes().expect("accepted");
     assert!(probes > 1);
-    assert_cast(&file, &AXIS, probes, &[(0, 0, 1024)]);
+    let bits = assert_cast(&file, &AXIS, probes, &[(0, 0, 1024)]);
+    assert!(bits.is_empty());
     let hit = host.first_hit(&file, &AXIS, 2047);
     assert_eq!(hit, FirstHit::Clear { probes });
 }

@@ -19,15 +19,13 @@ type Cast = (FullCast, Vec<u8>);
 /// A full cast and a column of the archive, and the benchmark's plain column.
 pub fn cast(host: &mut Host, file: &[u8], ray: &Ray) -> Cast {
     let (answer, marks) = host.full_cast(file, ray, 2047, 1024);
-    let column = host.column(file, ray, 128);
+    let (column, bits) = host.column_and_bits(file, ray, 128);
     let probes = column.probes().expect("an accepted file and ray");
     assert_eq!(answer, FullCast::Complete { probes });
     let mut plain = [0xa5; 128];
     let number = plain_column(file, ray, &mut plain);
     assert_eq!(number, column.number(), "{ray:?} {file:?}");
-    let bit = |tick: usize| plain[tick / 8] >> (tick % 8) & 1;
-    let solid = marks.iter().map(|&mark| u8::from(mark != 0));
-    assert!(solid.eq((0..1024).map(bit)), "{ray:?} {file:?}");
+    assert_eq!(plain[..], bits, "{ray:?} {file:?}");
     (answer, marks)
 }
 

@@ -8,7 +8,7 @@ use crate::parts::{added, without, Sign};
 use crate::places::{ball, small_balls};
 use crate::rays::{grazes, inner, plus, Class, Graze, CENTRE, CHORDS};
 use reference::cast::{full_cast_by, FullCast};
-use reference::field::{tick_bounds, Bounds, ExactField, Ray, SpanBounds};
+use reference::field::{middle_bounds, tick_bounds, Bounds, ExactField, Ray, SpanBounds};
 use reference::fraction::Fraction;
 use reference::part::{read, Node, Part};
 use std::array::from_fn;
@@ -121,6 +121,11 @@ impl<const N: usize> SpanBounds for Tested<N> {
 
     fn bounds(&self, first: u32, after: u32) -> Option<Bounds> {
         bounds_after(TESTS[N], &self.part, &self.ray, [first, after])
+    }
+
+    /// No full cast asks for it.
+    fn middle(&self, tick: u32) -> Option<Bounds> {
+        middle_bounds(&self.part, &self.ray, tick)
     }
 }
 

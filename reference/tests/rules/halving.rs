@@ -4,7 +4,8 @@ use crate::Case;
 use reference::cast::{column_by, first_hit, first_hit_by, full_cast, full_cast_by};
 use reference::cast::{judge, probe_count};
 use reference::cast::{Column, FirstHit, FullCast, Mark, NOT_LOOKED_AT};
-use reference::field::{tick_bounds, Ray, SpanBounds};
+use reference::field::{place_bounds, tick_bounds, ExactField, Ray, SpanBounds};
+use reference::fraction::Fraction;
 use reference::part::{read, FileBuilder};
 
 impl Case {
@@ -114,6 +115,21 @@ impl Case {
         }
     }
 
+    /// Whether a tick is solid: by its mark, and a crossing one by the place halfway
+    /// from where it begins to where it ends. The mean of the bounds there, in units
+    /// of 1/2^32, is at least iso.
+    fn solid(&self, tick: usize) -> bool {
+        if self.alone[tick] != 1 {
+            return self.alone[tick] == 2;
+        }
+        let half = Fraction::new(1, 2).expect("a half");
+        let start = |t: usize| Fraction::new(t as i128, 1024).expect("a start");
+        let middle = &half * &(&start(tick) + &start(tick + 1));
+        let bounds = place_bounds(&self.part, &self.ray.place(&middle)).expect("a tree");
+        let sum = &Fraction::from(bounds.low) + &Fraction::from(bounds.high);
+        &half * &sum >= Fraction::from(i64::from(self.part.iso) << 32)
+    }
+
     fn check_column<F: SpanBounds>(&self) {
         let mut bits = [9; 130];
         let done = column_by::<F>(&self.file, &self.ray, &mut bits);
@@ -121,7 +137,7 @@ impl Case {
         assert_eq!(done, Column::Done { probes });
         for t in 0..1024 {
             let bit = bits[t / 8] >> (t % 8) & 1;
-            assert_eq!(bit == 1, self.alone[t] != 0, "tick {t}");
+            assert_eq!(bit == 1, self.solid(t), "tick {t}");
         }
         assert_eq!(bits[128..], [9, 9]);
         let hit = first_hit_by::<F>(&self.file, &self.ray, u32::MAX);
@@ -212,4 +228,22 @@ fn a_field_equal_to_iso_is_solid() {
     let (tick, mark, probes) = (0, Mark::Inside, 1);
     let hit = FirstHit::Hit { tick, mark, probes };
     assert_eq!(first_hit(&file, &inner, 1), hit);
+}
+
+/// The same field where x = -64 and x = 64 are the middles of ticks 479 and 543:
+/// both are crossing, and solid.
+#[test]
+fn a_middle_equal_to_iso_is_solid() {
+    let file = FileBuilder::new(1).point(128, [0; 3], 4).build();
+    let ray = Ray {
+        a: [-1023, 64, 0],
+        b: [1025, 64, 0],
+    };
+    let case = Case::new(read(&file).expect("accepted"), ray);
+    case.check();
+    assert_eq!([479, 543].map(|t| case.alone[t]), [1, 1]);
+    let mut bits = [9; 128];
+    column_by::<ExactField>(&file, &ray, &mut bits);
+    let bit = |t: &usize| bits[t / 8] >> (t % 8) & 1 == 1;
+    assert!((0..1024).filter(bit).eq(479..=543));
 }
