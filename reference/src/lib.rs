@@ -6,13 +6,14 @@
 //! - [`part`]: the part file, its questions and a builder.
 //! - [`write`]: the numbers of a part's nodes, and part files written from them.
 //! - [`field`]: the exact field, bounds of spans and places, the tolerance.
-//! - [`quick`]: bounds of spans with whole numbers at their ends.
+//! - [`quick`]: bounds of spans and middles with whole numbers at their ends.
 //! - [`cast`]: bounds at a place, full cast, first hit and column.
 //! - [`march`]: the marching full cast.
 //! - [`view`]: the viewer's first hit.
 //! - [`lister`]: the ray lister's text.
 //! - [`totals`]: the running totals, and saved records of them.
 //! - [`generate`]: repeatable pseudo-random trees, rays, damaged files and totals.
+//! - [`walls`]: walls of known thickness.
 
 #![forbid(unsafe_code)]
 #![warn(missing_docs)]
@@ -28,4 +29,5 @@ pub mod part;
 pub mod quick;
 pub mod totals;
 pub mod view;
+pub mod walls;
 pub mod write;

@@ -1,5 +1,5 @@
 //! The benchmark's two columns in Rust, plain and by samples, against the
-//! reference's marks.
+//! reference; a strut thinner than a tick; walls of known thickness.
 
 #[path = "../examples/column/plain.rs"]
 mod plain;
@@ -9,11 +9,13 @@ mod samples;
 mod worked;
 
 use plain::plain_column;
-use reference::cast::{self, Column, FullCast, COLUMN_BYTES, TICKS};
+use reference::cast::{self, Column, FullCast, TICKS};
 use reference::field::Ray;
+use reference::fraction::Fraction;
 use reference::generate::{self, cancelling_or_bored, fault, lattice, part_of_form, strut};
 use reference::generate::{Shape, SplitMix64, FORMS, OVERLAPPING, STYLES};
 use reference::part::{check, FileBuilder, Part};
+use reference::walls::{walls, LENGTHS};
 use samples::sampled_column;
 use worked::{at_y, file_k, AXIS};
 
@@ -50,30 +52,37 @@ fn draw(random: &mut SplitMix64, i: usize) -> Part {
     }
 }
 
+/// The marks, the column and the sampled column of a ray.
+fn cast_all(file: &[u8], ray: &Ray) -> ([u8; 1024], [u8; 128], [u8; 128]) {
+    let (mut marks, mut column, mut sampled) = ([3; 1024], [0xa5; 128], [0xa5; 128]);
+    let answer = cast::full_cast(file, ray, 2047, &mut marks);
+    assert!(matches!(answer, FullCast::Complete { .. }), "{answer:?}");
+    let answer = cast::column(file, ray, &mut column);
+    assert!(matches!(answer, Column::Done { .. }), "{answer:?}");
+    assert_eq!(sampled_column(file, ray, &mut sampled), 65_536 + TICKS);
+    (marks, column, sampled)
+}
+
 /// The ticks that samples were compared on, by mark; crossing ones also by
-/// their bit.
+/// their bit and by the sampled one.
 #[derive(Debug, Default)]
 struct Ticks {
     empty: u32,
     inside: u32,
-    crossing: [u32; 2],
+    crossing: [[u32; 2]; 2],
 }
 
 impl Ticks {
-    /// An empty tick has no sampled bit, and an inside tick has one.
+    /// An empty tick has no bit, sampled or not, and an inside tick has both.
     fn compare(&mut self, file: &[u8], ray: &Ray) {
-        let mut marks = [3; TICKS as usize];
-        let answer = cast::full_cast(file, ray, 2047, &mut marks);
-        assert!(matches!(answer, FullCast::Complete { .. }), "{answer:?}");
-        let mut column = [0xa5; COLUMN_BYTES];
-        assert_eq!(sampled_column(file, ray, &mut column), 65_536 + TICKS);
+        let (marks, column, sampled) = cast_all(file, ray);
         for (tick, mark) in marks.into_iter().enumerate() {
-            let bit = column[tick / 8] >> (tick % 8) & 1;
-            match (mark, bit) {
-                (0, 0) => self.empty += 1,
-                (2, 1) => self.inside += 1,
-                (1, _) => self.crossing[usize::from(bit)] += 1,
-                _ => panic!("tick {tick}, mark {mark}, bit {bit}: {ray:?} {file:?}"),
+            let [bit, sample] = [column, sampled].map(|bits| bits[tick / 8] >> (tick % 8) & 1);
+            match (mark, bit, sample) {
+                (0, 0, 0) => self.empty += 1,
+                (2, 1, 1) => self.inside += 1,
+                (1, _, _) => self.crossing[usize::from(bit)][usize::from(sample)] += 1,
+                _ => panic!("tick {tick}, mark {mark}, {bit}, {sample}: {ray:?} {file:?}"),
             }
         }
     }
@@ -143,23 +152,63 @@ fn samples_where_a_tick_is_decided() {
     }
     println!("{ticks:?}");
     assert!(ticks.empty > 100_000 && ticks.inside > 100_000, "{ticks:?}");
-    assert!(ticks.crossing.iter().all(|&n| n > 5_000), "{ticks:?}");
+    let [[neither, sampled_alone], [bit_alone, both]] = ticks.crossing;
+    assert!(neither > 5_000 && both > 5_000, "{ticks:?}");
+    // the rounding of bounds settles these: the field is so near iso
+    assert!(sampled_alone + bit_alone < 1_000, "{ticks:?}");
 }
 
-/// Columns across a strut that stands where one tick ends and the next
-/// begins: each marks the two ticks, and no sample meets the strut.
+/// A strut that stands where one tick ends and the next begins, and is thinner than
+/// a tick: the marks of both ticks show it, and no middle meets it, so that neither
+/// a column nor samples have a bit of it.
 #[test]
-fn samples_lose_a_strut() {
+fn marks_alone_show_a_strut_thinner_than_a_tick() {
     let (part, rays) = strut(21);
     let file = FileBuilder::from(&part).build();
     assert_eq!(rays.len(), 41);
+    let mut expected = [0; 1024];
+    expected[511..=512].fill(1);
     for ray in rays {
-        let (mut column, mut sampled) = ([0; 128], [0xa5; 128]);
-        let answer = cast::column(&file, &ray, &mut column);
-        assert!(matches!(answer, Column::Done { .. }), "{answer:?}");
-        assert_eq!(sampled_column(&file, &ray, &mut sampled), 65_536 + TICKS);
-        let mut expected = [0; 128];
-        (expected[63], expected[64]) = (0x80, 0x01);
-        assert_eq!((column, sampled), (expected, [0; 128]), "{ray:?}");
+        assert_eq!(
+            cast_all(&file, &ray),
+            (expected, [0; 128], [0; 128]),
+            "{ray:?}"
+        );
     }
+}
+
+/// A ball of weight k² times iso is solid up to d from its centre, where d² is
+/// r² (k - 1)/k.
+#[test]
+fn thickness_of_balls() {
+    let balls = walls().into_iter().filter(|wall| wall.name == "ball");
+    let of_weight_4 = balls.step_by(4).zip([2, 7, 21, 86]);
+    for (wall, r) in of_weight_4 {
+        let [low, high] = wall.thickness.map(|thickness| &thickness * &thickness);
+        let exact = Fraction::from(2 * r * r);
+        assert!(low <= exact && exact < high, "{r}");
+        assert!(&high - &low < Fraction::new(1, 1 << 20).expect("a fraction"));
+    }
+}
+
+/// With every crossing tick solid a wall is up to two ticks too thick, and by the
+/// middles within one tick of right.
+#[test]
+fn walls_of_known_thickness() {
+    let walls = walls();
+    assert_eq!(walls.len(), 76);
+    let (mut count, mut range) = (0, [[f64::INFINITY, f64::NEG_INFINITY]; 2]);
+    let of_length = |length| walls.iter().flat_map(move |wall| wall.stands(length));
+    for stand in LENGTHS.into_iter().flat_map(of_length) {
+        let (marks, column, _) = cast_all(&stand.file, &stand.ray);
+        let printed = stand.printed(&marks, &column).expect("one piece");
+        assert!(printed.is_right(), "{printed:?} {:?}", stand.ray);
+        let more = printed.more();
+        range = [0, 1].map(|i| [range[i][0].min(more[i]), range[i][1].max(more[i])]);
+        count += 1;
+    }
+    println!("{count} walls, {range:?}");
+    assert_eq!(count, 76 * 24 * 3);
+    let [[least, most], [less, more]] = range;
+    assert!(least < 0.1 && most > 1.9 && less < -0.9 && more > 0.9);
 }
