@@ -8,11 +8,12 @@ pub mod entries;
 #[path = "guards.rs"]
 mod guards;
 
-use guards::in_guards;
+use guards::{in_guards, GUARD as AROUND};
 use reference::cast::{self, Column, FirstHit, FullCast};
-use reference::field::{Bounds, Ray};
+use reference::field::{Bounds, Ray, SpanBounds};
 use reference::march;
 use reference::part;
+use reference::quick::TickField;
 
 /// The numbers of the bounds before a call, and around them.
 const GUARD: i64 = 0x5a5a_5a5a_5a5a_5a5a;
@@ -54,6 +55,7 @@ pub fn place_bounds(file: &[u8], at: [i32; 3]) -> Result<Bounds, u32> {
 }
 
 /// A full cast.
+#[allow(dead_code)]
 pub fn full_cast(file: &[u8], ray: &Ray, budget: u32, room: usize) -> FullCast {
     let copy = file.to_vec();
     let (number, bytes) = in_guards(room, |b| entries::full_cast(&copy, ray, budget, b));
@@ -77,6 +79,7 @@ pub fn marching_cast(file: &[u8], ray: &Ray, budget: u32, room: usize) -> FullCa
 }
 
 /// A first hit.
+#[allow(dead_code)]
 pub fn first_hit(file: &[u8], ray: &Ray, budget: u32) -> FirstHit {
     let copy = file.to_vec();
     let number = entries::first_hit(&copy, ray, budget);
@@ -87,12 +90,18 @@ pub fn first_hit(file: &[u8], ray: &Ray, budget: u32) -> FirstHit {
 }
 
 /// A column.
+#[allow(dead_code)]
 pub fn column(file: &[u8], ray: &Ray, room: usize) -> Column {
+    column_by::<TickField>(file, ray, room).0
+}
+
+/// A column by the bounds named, and the bytes of its buffer.
+pub fn column_by<F: SpanBounds>(file: &[u8], ray: &Ray, room: usize) -> (Column, Vec<u8>) {
     let copy = file.to_vec();
     let (number, bytes) = in_guards(room, |b| entries::column(&copy, ray, b));
-    let (answer, expected) = in_guards(room, |b| cast::column(file, ray, b));
+    let (answer, expected) = in_guards(room, |b| cast::column_by::<F>(file, ray, b));
     assert_eq!(number, answer.number(), "{ray:?} {room} {file:?}");
     assert_eq!(bytes, expected, "{ray:?} {room} {file:?}");
     assert_eq!(copy, file);
-    answer
+    (answer, bytes[AROUND..AROUND + room].to_vec())
 }

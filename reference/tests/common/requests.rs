@@ -22,6 +22,7 @@ pub fn file(random: &mut SplitMix64, part: &Part) -> Vec<u8> {
 }
 
 /// A ray, mostly one that comes near a point; one that is refused once in ten.
+#[allow(dead_code)]
 pub fn ray(random: &mut SplitMix64, part: &Part) -> Ray {
     let far = random.pick(&[2048, -2048, 65_536, i32::MAX, i32::MIN]);
     let style = match random.one_in(3) {
