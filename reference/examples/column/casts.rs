@@ -9,7 +9,7 @@ use reference::field::Ray;
 use reference::part::REACH;
 
 /// The bytes of a ray's marks.
-const MARKS: usize = TICKS as usize;
+pub const MARKS: usize = TICKS as usize;
 
 /// The calls, by the names that the profiler knows them by.
 const CALLS: [(&str, RayCall); 2] = [
@@ -17,7 +17,7 @@ const CALLS: [(&str, RayCall); 2] = [
     ("fenalukki_marching_cast", marching),
 ];
 
-fn halving(file: &[u8], ray: &Ray, marks: &mut [u8]) -> u32 {
+pub fn halving(file: &[u8], ray: &Ray, marks: &mut [u8]) -> u32 {
     entries::full_cast(file, ray, 2047, marks)
 }
 
@@ -47,8 +47,13 @@ fn marks(load: &Load, ray: &Ray) -> [u8; MARKS] {
     load.fill(ray, halving).1
 }
 
-fn crossing(marks: &[u8]) -> usize {
+pub fn crossing(marks: &[u8]) -> usize {
     marks.iter().filter(|&&mark| mark == 1).count()
+}
+
+/// The crossing ticks of a ray.
+pub fn crossing_ticks(load: &Load, ray: &Ray) -> usize {
+    crossing(&marks(load, ray))
 }
 
 /// The rays of the raster of which every tick is empty.
@@ -69,7 +74,7 @@ fn along_the_surface(load: &Load) -> Vec<Ray> {
     let along = |ray: &Ray| {
         let tick = marks(load, ray).iter().position(|&mark| mark == 1)?;
         let rays = rays_about(middle(ray, tick as i32));
-        rays.max_by_key(|ray| crossing(&marks(load, ray)))
+        rays.max_by_key(|ray| crossing_ticks(load, ray))
     };
     load.rays.iter().filter_map(along).collect()
 }

@@ -1,6 +1,5 @@
 //! The parts and the rays whose columns are made, or full casts.
 
-use reference::cast::COLUMN_BYTES;
 use reference::field::Ray;
 use reference::generate::{lattice, strut};
 use reference::part::{read, FileBuilder, Kind, Node, Part, OPERATORS, REACH};
@@ -70,10 +69,10 @@ impl Load {
         self.rays.iter().for_each(|_| call(black_box(&self.file)));
     }
 
-    /// How many columns have a bit set.
-    pub fn solid(&self, call: RayCall) -> usize {
-        let has_bit = |ray: &&Ray| self.fill(ray, call).1 != [0; COLUMN_BYTES];
-        self.rays.iter().filter(has_bit).count()
+    /// On how many rays a call leaves a byte that is not 0.
+    pub fn solid<const BYTES: usize>(&self, call: RayCall) -> usize {
+        let has_any = |ray: &&Ray| self.fill(ray, call).1 != [0; BYTES];
+        self.rays.iter().filter(has_any).count()
     }
 }
 
@@ -185,7 +184,7 @@ pub fn operators() -> Vec<Load> {
     OPERATORS.map(load).into()
 }
 
-/// A strut that stands between two samples.
+/// A strut that stands between two middles of ticks.
 pub fn struts() -> Vec<Load> {
     let (part, rays) = strut(21);
     vec![Load::new("strut".to_string(), &part, rays)]

@@ -1,8 +1,9 @@
 //! What a column costs: the archive's, plain Rust's and that of samples; what
 //! the archive's two full casts cost, halving and marching; and what the archive
-//! takes to check, read and write a file. Or, by the shared libraries of an
-//! earlier archive and of this one, what a column cost before and after. Prints
-//! tables in Markdown; docs/BENCHMARKS.md explains them.
+//! takes to check, read and write a file. What marks and bits show of a strut
+//! thinner than a tick, and how thick walls come out. Or, by the shared libraries
+//! of an earlier archive and of this one, what a column cost before and after.
+//! Prints tables in Markdown; docs/BENCHMARKS.md explains them.
 
 mod casts;
 #[path = "../../tests/common/entries.rs"]
@@ -13,10 +14,13 @@ mod loads;
 mod measure;
 mod plain;
 mod samples;
+mod walls;
 
+use casts::MARKS;
 use loads::{Load, RayCall};
 use measure::{instructions, instructions_by};
 use reference::cast::COLUMN_BYTES;
+use reference::field::Ray;
 use std::env;
 
 /// The calls, by the names that the profiler knows them by.
@@ -27,10 +31,17 @@ const SAMPLED: (&str, RayCall) = ("sampled_column", samples::sampled_column);
 
 /// The calls of an earlier archive and of this one, by shared libraries.
 const BEFORE_AFTER: [RayCall; 2] = [libraries::column::<0>, libraries::column::<1>];
+const BEFORE_AFTER_CASTS: [RayCall; 2] = [libraries::full_cast::<0>, libraries::full_cast::<1>];
 
 /// The mean probes of a column.
 fn probes(load: &Load) -> f64 {
     f64::from(load.fill_all::<COLUMN_BYTES>(ARCHIVE.1)) / load.rays.len() as f64
+}
+
+/// The mean middles of a column, one for each crossing tick.
+fn middles(load: &Load) -> f64 {
+    let ticks = load.rays.iter().map(|ray| casts::crossing_ticks(load, ray));
+    ticks.sum::<usize>() as f64 / load.rays.len() as f64
 }
 
 /// A heading, and the head of a table.
@@ -47,11 +58,17 @@ fn print_number(number: Option<f64>, digits: usize) {
     }
 }
 
+/// The first cells of a row: the load, its points, and what a column asks bounds of.
+fn print_load(load: &Load) {
+    print!("| {} | {} |", load.name, load.points);
+    print!(" {:.1} | {:.1} |", probes(load), middles(load));
+}
+
 fn print_part(load: &Load) {
     let counted = CALLS.map(|(name, _)| instructions(load, name));
     let times = measure::times::<COLUMN_BYTES, 3>(load, CALLS.map(|(_, call)| call));
     let [archive, plain, sampled] = counted;
-    print!("| {} | {} | {:.1} |", load.name, load.points, probes(load));
+    print_load(load);
     counted.iter().for_each(|&number| print_number(number, 0));
     print_number(archive.zip(plain).map(|(x, y)| x / y), 2);
     print_number(archive.zip(sampled).map(|(x, y)| x / y), 2);
@@ -63,6 +80,7 @@ fn print_parts() {
         "Part",
         "Points",
         "Probes",
+        "Middles",
         "Archive",
         "Rust",
         "Samples",
@@ -95,12 +113,12 @@ fn print_files() {
 }
 
 fn print_growing(load: &Load) {
-    let (points, probes) = (load.points as f64, probes(load));
+    let (points, both) = (load.points as f64, probes(load) + middles(load));
     let [archive, sampled] = [ARCHIVE, SAMPLED].map(|(name, _)| instructions(load, name));
-    print!("| {} | {points} | {probes:.1} |", load.name);
+    print_load(load);
     print_number(archive, 0);
-    print_number(archive.map(|n| n / probes), 0);
-    print_number(archive.map(|n| n / probes / points), 1);
+    print_number(archive.map(|n| n / both), 0);
+    print_number(archive.map(|n| n / both / points), 1);
     print_number(sampled, 0);
     println!();
 }
@@ -110,9 +128,10 @@ fn print_growth(heading: &str, loads: &[Load]) {
         "Load",
         "Points",
         "Probes",
+        "Middles",
         "Archive",
-        "For a probe",
-        "For a point and probe",
+        "For a probe or middle",
+        "And point",
         "Samples",
     ];
     print_head(heading, &columns);
@@ -120,25 +139,34 @@ fn print_growth(heading: &str, loads: &[Load]) {
 }
 
 fn print_struts() {
-    let columns = ["Load", "Columns", "Archive", "Rust", "Samples"];
-    print_head("A strut between two samples", &columns);
+    let columns = [
+        "Load",
+        "Rays",
+        "Marks, archive",
+        "Bits, archive",
+        "Bits, Rust",
+        "Bits, samples",
+    ];
+    print_head("A strut thinner than a tick", &columns);
     for load in loads::struts() {
-        let [archive, plain, sampled] = CALLS.map(|(_, call)| load.solid(call));
-        let (name, columns) = (&load.name, load.rays.len());
-        println!("| {name} | {columns} | {archive} | {plain} | {sampled} |");
+        let marked = load.solid::<MARKS>(casts::halving);
+        let [archive, plain, sampled] = CALLS.map(|(_, call)| load.solid::<COLUMN_BYTES>(call));
+        let (name, rays) = (&load.name, load.rays.len());
+        println!("| {name} | {rays} | {marked} | {archive} | {plain} | {sampled} |");
     }
 }
 
 /// The loads on one ray, of which the first has no far point; the others have
-/// as many probes.
+/// as many probes and middles.
 fn print_far(loads: &[Load]) {
-    let (without, mean) = (instructions(&loads[0], ARCHIVE.0), probes(&loads[0]));
+    let both = |load: &Load| probes(load) + middles(load);
+    let (without, mean) = (instructions(&loads[0], ARCHIVE.0), both(&loads[0]));
     for load in loads {
-        assert_eq!(probes(load), mean, "{}", load.name);
+        assert_eq!(both(load), mean, "{}", load.name);
         let far = (load.points - 1) as f64;
         let archive = instructions(load, ARCHIVE.0);
         let more = archive.zip(without).filter(|_| far > 0.0);
-        print!("| {} | {} | {mean:.1} |", load.name, load.points);
+        print_load(load);
         print_number(archive, 0);
         print_number(archive.map(|n| n / mean), 0);
         print_number(more.map(|(n, without)| (n - without) / far / mean), 1);
@@ -151,27 +179,66 @@ fn print_far_points() {
         "Load",
         "Points",
         "Probes",
+        "Middles",
         "Archive",
-        "For a probe",
-        "For a far point and probe",
+        "For a probe or middle",
+        "And far point",
     ];
     print_head("Far points", &columns);
     loads::far().iter().for_each(|loads| print_far(loads));
 }
 
-/// How many columns a load has. Panics unless both archives answer the same.
-fn compare(load: &Load) -> usize {
-    for ray in &load.rays {
-        let [before, after] = BEFORE_AFTER.map(|call| load.fill::<COLUMN_BYTES>(ray, call));
-        assert_eq!(before, after, "{} {ray:?}", load.name);
+/// The rays that both archives were compared on, the crossing ticks, the columns that
+/// differ and the bits in which they do.
+#[derive(Default)]
+struct Compared {
+    rays: usize,
+    crossing: usize,
+    columns: usize,
+    bits: usize,
+}
+
+impl Compared {
+    /// Panics unless both archives leave the same marks, make the same probes and set
+    /// the same bits but for those of crossing ticks.
+    fn compare(&mut self, load: &Load, ray: &Ray) {
+        let casts = BEFORE_AFTER_CASTS.map(|call| load.fill::<MARKS>(ray, call));
+        assert_eq!(casts[0], casts[1], "{} {ray:?}", load.name);
+        let (probes, marks) = casts[0];
+        let columns = BEFORE_AFTER.map(|call| load.fill::<COLUMN_BYTES>(ray, call));
+        assert_eq!(columns.map(|column| column.0), [probes; 2]);
+        let [before, after] = columns.map(|column| column.1);
+        let bit = |bits: [u8; COLUMN_BYTES], t: usize| bits[t / 8] >> (t % 8) & 1;
+        let differ = (0..MARKS).filter(|&t| bit(before, t) != bit(after, t));
+        let differ: Vec<usize> = differ.collect();
+        assert!(
+            differ.iter().all(|&t| marks[t] == 1),
+            "{} {ray:?}",
+            load.name
+        );
+        self.rays += 1;
+        self.crossing += casts::crossing(&marks);
+        self.columns += usize::from(before != after);
+        self.bits += differ.len();
     }
-    load.rays.len()
+
+    fn print(&self) {
+        let Compared {
+            rays,
+            crossing,
+            columns,
+            bits,
+        } = self;
+        println!("\nBoth leave the same marks on {rays} rays, byte for byte, and their columns");
+        println!("make the same probes. {columns} columns differ, in {bits} bits, all of crossing");
+        println!("ticks, of which there are {crossing}.");
+    }
 }
 
 fn print_change(load: &Load, paths: [&str; 2]) {
     let counted = paths.map(|path| instructions_by(load, ARCHIVE.0, &[path]));
     let times = measure::times::<COLUMN_BYTES, 2>(load, BEFORE_AFTER);
-    print!("| {} | {} | {:.1} |", load.name, load.points, probes(load));
+    print_load(load);
     counted.iter().for_each(|&number| print_number(number, 0));
     print_number(counted[1].zip(counted[0]).map(|(x, y)| x / y), 2);
     println!(" {:.2} |", times[1] / times[0]);
@@ -183,11 +250,15 @@ fn print_changes(paths: [&str; 2]) {
     libraries::open(0, paths[0]);
     libraries::open(1, paths[1]);
     let loads = loads::all();
-    let same: usize = loads.iter().map(compare).sum();
+    let mut compared = Compared::default();
+    for load in &loads {
+        load.rays.iter().for_each(|ray| compared.compare(load, ray));
+    }
     let columns = [
         "Load",
         "Points",
         "Probes",
+        "Middles",
         "Before",
         "After",
         "After / before",
@@ -195,7 +266,7 @@ fn print_changes(paths: [&str; 2]) {
     ];
     print_head("Before and after", &columns);
     loads.iter().for_each(|load| print_change(load, paths));
-    println!("\nBoth answer the same {same} columns, byte for byte.");
+    compared.print();
 }
 
 /// Makes the calls of a load by one name.
@@ -229,6 +300,7 @@ fn print_tables() {
     print_growth("Each operator", &loads::operators());
     print_far_points();
     print_struts();
+    walls::print();
     casts::print();
     print_files();
 }
