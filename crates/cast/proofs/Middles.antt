@@ -2,13 +2,13 @@
 -- exact field and the tick's bit is right of it but for the rounding (`middle-says`). A decided tick's middle is decided alike, so that a tick's bit
 -- is its middle's whatever its mark (`bit-is-middle`).
 use mathlib.Core.Path.{_≡_, refl}
-use mathlib.Core.Logic.{inl, inr}
+use mathlib.Core.Logic.{_⊎_, inl, inr}
 use mathlib.Core.Bool.{true, false, cond}
 use Prim.Native.Nat.{ℕ, _+_, _*_, _≤_}
 use native.Mathlib.Nat.{le-of-eq, mul-comm}
 use native.Mathlib.Omega.{arith}
 use lib.IntN.{pos, _+ℤ_}
-use lib.Signed.{_≤ℤ_, _<ℤ_}
+use lib.Signed.{leZ, _≤ℤ_, _<ℤ_}
 use Rattle.exact.proofs.Ring.{_⊕_, _⊗_, #}
 use Rattle.exact.proofs.Order.{nn-pos, pos-reflect}
 use Rattle.exact.proofs.Certificates.{_≦_by_, le}
@@ -91,29 +91,30 @@ module _ (solid : Solid) (valid : Valid solid) (ray : Ray) (t : ℕ) {T : ℕ} (
         ]
       ]
 
-  -- what the bit says of the sum of the two bounds
-  solid-sum : bitOf solid ray T t ≡ 1 → level (2 * solid .iso) ≤ℤ (b .low +ℤ b .high)
+  -- the bit, with the sum of the two bounds
+  judged : ((level (2 * solid .iso) ≤ℤ (b .low +ℤ b .high)) × (bitOf solid ray T t ≡ 1))
+      ⊎ (((b .low +ℤ b .high) <ℤ level (2 * solid .iso)) × (bitOf solid ray T t ≡ 0))
   unfolding middleSolid solidBy
-  solid-sum e = elim (cond-by {A = ℕ} {Q = Unit {0}} (middleSolid solid ray T t) 1 0 (leZ-true (level (2 * solid .iso)) (b .low +ℤ b .high)) (λ f. tt)) [
-    | inl k ↦ k .0
-    | inr k ↦ absurd (omega (arith, e, bit-is-middle, k .1))
-  ]
-
-  empty-sum-low : bitOf solid ray T t ≡ 0 → (b .low +ℤ b .high) <ℤ level (2 * solid .iso)
-  unfolding middleSolid solidBy
-  empty-sum-low e = elim (cond-by {A = ℕ} {P = Unit {0}} (middleSolid solid ray T t) 1 0 (λ f. tt) (leZ-false (level (2 * solid .iso)) (b .low +ℤ b .high))) [
-    | inl k ↦ absurd (omega (arith, e, bit-is-middle, k .1))
-    | inr k ↦ k .0
-  ]
+  judged =
+      let twice = level (2 * solid .iso) in
+      let sum = b .low +ℤ b .high in
+      rw bit-is-middle (cond-by {A = ℕ} (leZ twice sum) 1 0 (leZ-true twice sum) (leZ-false twice sum))
 
   pub middle-says : MiddleSays solid ray T t
   middle-says =
       let x = fieldAt solid ray (2 * t + 1) (2 * T) in
+      let y = rounding solid in
       record {
         encloses = encloses;
         sound = record {
           proper = (encloses .proper, narrow .proper);
-          solid = λ g. sum-high (solid .iso) b x (rounding solid) encloses narrow (solid-sum g);
-          empty = λ g. sum-low (solid .iso) b x (rounding solid) encloses narrow (empty-sum-low g);
+          solid = λ g. elim judged [
+            | inl k ↦ sum-high (solid .iso) b x y encloses narrow (k .0)
+            | inr k ↦ absurd (omega (arith, g, k .1))
+          ];
+          empty = λ g. elim judged [
+            | inl k ↦ absurd (omega (arith, g, k .1))
+            | inr k ↦ sum-low (solid .iso) b x y encloses narrow (k .0)
+          ];
         };
       }

@@ -1,5 +1,5 @@
--- A column (document 01, "Calls"; document 02, P6): "bit t mod 8 (lowest is 0) of byte t/8 (rounded down) is 1 if tick t is" solid, "else 0". An inside
--- tick is solid and an empty one is not; "A crossing tick is solid if the low and high bounds at its exact middle add up to at least 2 × iso × 2³²."
+-- A column (document 01, "Calls"; document 02, P6): "bit t mod 8 (lowest is 0) of byte t/8 (rounded down) is 1 if tick t is" solid, "else 0". Inside
+-- it is, empty it is not, and "A crossing tick is solid if the low and high bounds at its exact middle add up to at least 2 × iso × 2³²."
 use Prim.Native.Nat.{ℕ, zero, suc, _+_, _*_}
 use mathlib.Core.List.{List, [], _∷_, _++_}
 use mathlib.Core.Bool.{Bool, cond, _&&_, _||_}

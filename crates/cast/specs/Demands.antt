@@ -1,5 +1,5 @@
--- What the casting calls promise beside their equations (demands 2 and 3; document 02, P6), of a solid and a ray. What speaks of marks alone holds for any number T of
--- ticks; what speaks of the halvings, for 2^k.
+-- What the casting calls promise beside their equations (demands 2 and 3; document 02, P6), of a solid and a ray. What speaks of marks alone holds
+-- for any number T of ticks; what speaks of the halvings, for 2^k.
 use mathlib.Core.Path.{_≡_}
 use mathlib.Core.List.{List}
 use Prim.Native.Nat.{ℕ, _+_, _*_, _/_, _%_, _^_, _≤_, _<_}

@@ -14,7 +14,8 @@ returns c =
     let a = s .args in
     let st = stateIn (a .prepared .now) (a .s) in (
       c .probes-of .ensures ∙ all-probes st (s .pre .1 .0 .1) (s .pre .1 .0 .0) (w .result) (w .ensures .0),
-      rw (all-marks st (s .pre .1 .0 .1) (s .pre .1 .0 .0) (w .result) (w .ensures .0) _ (w .ensures .1)) at (c .before .before .before .pack .ensures),
+      rw (all-marks st (s .pre .1 .0 .1) (s .pre .1 .0 .0) (w .result) (w .ensures .0) _ (w .ensures .1))
+          at (c .before .before .before .pack .ensures),
     )
 
 pub cast-column-spec : {M : Type 1} → statement M
