@@ -31,7 +31,7 @@
  *   fenalukki_full_cast                  the mark of every tick
  *   fenalukki_marching_cast              the same, by forward steps from A
  *   fenalukki_first_hit                  the first tick that is not empty
- *   fenalukki_column                     a bit for each tick, solid or not
+ *   fenalukki_column                     a bit for each tick, by its middle
  *   fenalukki_viewer_first_hit           the first hit, by floats in mm
  *   fenalukki_full_cast_counted          each of the five casting calls,
  *   fenalukki_marching_cast_counted        with running totals
@@ -164,21 +164,32 @@
  *
  *   A probe is one working out of the field's bounds over a stretch of ticks.
  *   The time of a cast goes by its probes times the part's records. The most
- *   are 2,047 probes, in a marching cast 2,052, of 511 records. A column of that
+ *   are 2,047 probes, in a marching cast 2,052, of 511 records. A column also
+ *   works out the bounds at the middle of each crossing tick, of at most 1,024:
+ *   each is as much work as a probe and is not counted as one. A column of that
  *   size, of 256 points, 3 sums and 252 cuts that leave every tick undecided,
  *   takes 70 million instructions by callgrind, which is 67 for a probe and
  *   record, and a marching cast as many; no call tried took more. With 255 sums
  *   a column takes 66 million. A smaller budget makes fewer probes and so bounds
- *   a call's time. docs/BENCHMARKS.md has the figures of other parts.
+ *   a call's time; a column has no budget. docs/BENCHMARKS.md has the figures of
+ *   other parts.
+ *
+ * Coming from version 2
+ *
+ *   A column's bit of a crossing tick goes by the tick's middle; in version 2 it
+ *   was always 1. Parts come out up to a tick thinner at each face, and a strut
+ *   thinner than a tick may have no bit. A host that took the bits for all that
+ *   may be solid takes the ticks that a full cast does not mark empty. Nothing
+ *   else changes: marks, probes, numbers and totals are version 2's.
  *
  * Coming from version 1
  *
- *   A host that makes counted calls keeps, copies, prints and saves its totals
- *   as uint64_t, no longer as uint32_t, and is compiled again: a linker does
- *   not see the difference, and 24 bytes are written where 12 were lent. What
- *   version 1 saved is read by fenalukki_restore_totals; a host that saves its
- *   totals tells it from what it saves now, by the length for one. Nothing
- *   changes for a host that makes no counted call.
+ *   Columns change as from version 2. A host that makes counted calls keeps,
+ *   copies, prints and saves its totals as uint64_t, no longer as uint32_t, and
+ *   is compiled again: a linker does not see the difference, and 24 bytes are
+ *   written where 12 were lent. What version 1 saved is read by
+ *   fenalukki_restore_totals; a host that saves its totals tells it from what it
+ *   saves now, by the length for one. Nothing else changes.
  *
  * Platform
  *
@@ -199,10 +210,10 @@
 
 /* The version of this header and of the archive beside it. The major number
  * changes where a host has to change, the minor where names are added. */
-#define FENALUKKI_VERSION_MAJOR 2
-#define FENALUKKI_VERSION_MINOR 1
+#define FENALUKKI_VERSION_MAJOR 3
+#define FENALUKKI_VERSION_MINOR 0
 #define FENALUKKI_VERSION_PATCH 0
-#define FENALUKKI_VERSION "2.1.0"
+#define FENALUKKI_VERSION "3.0.0"
 #define FENALUKKI_VERSION_NUMBER \
     (FENALUKKI_VERSION_MAJOR * 10000 + FENALUKKI_VERSION_MINOR * 100 + FENALUKKI_VERSION_PATCH)
 
@@ -415,10 +426,11 @@ uint32_t fenalukki_full_cast(const uint8_t *file, size_t file_len,
  * Its probes are at most 2,052, and some ray takes them; 2,047 is not always
  * enough. Where the first 64 ticks are decided together, the first probe marks
  * them. The first probe of a full cast marks nothing, unless the whole ray is
- * decided together: then it is the only one, and a march takes five. So a march
- * suits a viewer that has few probes for a ray and wants the ticks near A. For
- * all ticks of a ray a full cast takes fewer probes on most rays tried;
- * docs/BENCHMARKS.md has the figures of both.
+ * decided together: then it is the only one, and a march takes five. So with a
+ * budget of a handful of probes a march may be further along than a full cast.
+ * For all ticks of a ray a full cast takes fewer probes on most rays tried, and
+ * for the first hit alone there is fenalukki_first_hit. docs/BENCHMARKS.md has
+ * the figures of both casts.
  */
 uint32_t fenalukki_marching_cast(const uint8_t *file, size_t file_len,
                                  int32_t ax, int32_t ay, int32_t az,
@@ -443,15 +455,35 @@ uint64_t fenalukki_first_hit(const uint8_t *file, size_t file_len,
                              uint32_t budget);
 
 /*
- * Column: a bit for each tick. It has no budget and is never spent.
+ * Column: a bit for each tick, solid or not. It has no budget and is never
+ * spent.
  *
  * Returns
  *   1 to 14            the refusal number
  *   65,536 + probes    complete; the probes are those of a full cast
  *
- * Unless refused, bit t mod 8 of byte t / 8 of bits (the lowest bit is bit 0)
- * is 1 if tick t is inside or crossing and 0 if it is empty, for t from 0 to
- * 1,023. Bytes from 128 on are never written.
+ * Unless refused, bit t mod 8 of byte t / 8 of bits (the lowest bit is bit 0) is
+ * that of tick t, for t from 0 to 1,023. Bytes from 128 on are never written.
+ *
+ *   inside      1
+ *   empty       0
+ *   crossing    1 if the field's low and high bounds at the tick's exact middle,
+ *               (2 t + 1)/2048 of the way, add up to at least 2 * iso * 2^32,
+ *               else 0
+ *
+ * The bounds at a middle are worked out as fenalukki_place_bounds does, enclose
+ * the field there, and are not counted as probes. But for their rounding the bit
+ * of any tick, crossing or not, tells whether the middle is solid: where it is 1
+ * the field there is at least the iso-value minus, and where it is 0 it is below
+ * the iso-value plus, the sum over the part's points of the size of the weight
+ * divided by 16,384.
+ *
+ * So a wall is printed to within a tick of its exact thickness on the ray, but
+ * for that rounding; with all its crossing ticks it would be up to a tick more
+ * at each face, or more still where several stand in a row. But a strut thinner
+ * than a tick may have no bit, where it lies between two middles. Its ticks are
+ * marked crossing all the same: a host that must not lose a strut looks at the
+ * marks of a full cast.
  */
 uint32_t fenalukki_column(const uint8_t *file, size_t file_len,
                           int32_t ax, int32_t ay, int32_t az,
@@ -600,7 +632,7 @@ static inline int fenalukki_tick_reached(const uint8_t *marks)
 }
 
 /* Of the bits that a column left, if it was not refused: 1 if the tick, 0 to
- * 1,023, is inside or crossing, 0 if it is empty. */
+ * 1,023, is inside, or crossing and solid by its middle, else 0. */
 static inline int fenalukki_bit(const uint8_t *bits, int tick)
 {
     return bits[tick / 8] >> (tick % 8) & 1;
