@@ -343,13 +343,94 @@ uint64_t __wrap_fenalukki_first_hit(FILE_BYTES, ENDS, uint32_t budget)
     return misjudged_ray(RAY, number);
 }
 
+/* The bounds at n/2048 of the way; answers 0 where that is no whole step. */
+static int bounds_on_ray(FILE_BYTES, ENDS, int32_t n, int64_t bounds[2])
+{
+    const int32_t a[3] = {ax, ay, az}, b[3] = {bx, by, bz};
+    int32_t c[3];
+    int i, whole = 1;
+
+    for (i = 0; i < 3; i++) {
+        int32_t way = (b[i] - a[i]) * n;
+
+        whole &= way % 2048 == 0;
+        c[i] = a[i] + way / 2048;
+    }
+    return whole &&
+           __real_fenalukki_place_bounds(file, file_len, c[0], c[1], c[2], bounds) >= 65536;
+}
+
+/* The bit of a crossing tick by wrong limits, told the bounds at its middle. */
+static int misjudged_middle(const int64_t bounds[2], int64_t level, int bit)
+{
+    int64_t beyond = bounds[0] + bounds[1] - 2 * level;
+
+    if (wrong("middle-by-low"))
+        return bounds[0] >= level;
+    if (wrong("middle-by-high"))
+        return bounds[1] >= level;
+    if (wrong("middle-at-limit-empty") && beyond == 0)
+        return 0;
+    if (wrong("middle-1-less-solid") && beyond == -1)
+        return 1;
+    if (wrong("middle-1-more-empty") && beyond == 1)
+        return 0;
+    if (wrong("middle-most-wraps") && bounds[0] + bounds[1] == INT64_C(1) << 53)
+        return 0;
+    if (wrong("middle-least-wraps") && bounds[0] + bounds[1] == -255 * (INT64_C(1) << 45))
+        return 1;
+    return bit;
+}
+
+/* The bit of a crossing tick by a wrong rule. */
+static int misjudged_bit(FILE_BYTES, ENDS, int tick, int bit)
+{
+    int64_t bounds[2], level = (int64_t)iso_of(file, file_len) << 32;
+
+    if (wrong("crossing-all-solid"))
+        return 1;
+    if (wrong("crossing-none-solid"))
+        return 0;
+    if (wrong("middle-at-start") && bounds_on_ray(file, file_len, RAY, 2 * tick, bounds))
+        return bounds[0] + bounds[1] >= 2 * level;
+    if (bounds_on_ray(file, file_len, RAY, 2 * tick + 1, bounds))
+        return misjudged_middle(bounds, level, bit);
+    return bit;
+}
+
+/* Gives the crossing ticks of a column their bits by a wrong rule. Answers how many
+ * there are; none where the column is refused. */
+static uint32_t miscolumn(uint32_t number, FILE_BYTES, ENDS, uint8_t *column)
+{
+    static uint8_t marks[1024];
+    uint32_t crossing = 0;
+    int tick;
+
+    if (number < 65536)
+        return 0;
+    __real_fenalukki_full_cast(file, file_len, RAY, 2047, marks, sizeof marks);
+    for (tick = 0; tick < 1024; tick++) {
+        int shift = tick % 8, bit = column[tick / 8] >> shift & 1;
+
+        if (marks[tick] != 1)
+            continue;
+        crossing++;
+        bit ^= misjudged_bit(file, file_len, RAY, tick, bit);
+        column[tick / 8] ^= (uint8_t)(bit << shift);
+    }
+    return crossing;
+}
+
 uint32_t __wrap_fenalukki_column(FILE_BYTES, ENDS, uint8_t *column, size_t column_len)
 {
     uint32_t number = __real_fenalukki_column(file, told_file(file_len), RAY, column,
                                               told_room(column_len));
+    uint32_t crossing = miscolumn(number, file, file_len, RAY, column);
 
     touch_file(file, file_len);
     touch_buffer(number, column, column_len, 128);
+    if (wrong("middles-as-probes"))
+        number += crossing;
     if (wrong("bit-of-column") && number >= 65536)
         column[127] ^= 0x80;
     if (wrong("refuses-room-128") && number >= 65536 && column_len == 128)
@@ -400,10 +481,13 @@ uint32_t __wrap_fenalukki_column_counted(FILE_BYTES, ENDS, uint8_t *column, size
     uint64_t casts = totals[0];
     uint32_t number = __real_fenalukki_column_counted(file, told_file(file_len), RAY, column,
                                                       told_room(column_len), totals);
+    uint32_t crossing = miscolumn(number, file, file_len, RAY, column);
 
     touch_file(file, file_len);
     touch_buffer(number, column, column_len, 128);
     touch_totals(number, casts, totals);
+    if (wrong("middles-counted"))
+        totals[1] += crossing;
     if (wrong("counted-bit") && number >= 65536)
         column[0] ^= 1;
     return number;

@@ -1,13 +1,14 @@
 //! A stream of requests with the reference's answers, for `robust/replay.c`:
-//! those at the limits of the questions, casts of the most probes, then N on
-//! damaged files, drawings and saved records, and one on a whole file, drawing or
-//! record after each seven of them.
+//! those at the limits of the questions, casts of the most probes, columns at the
+//! limits of the rule for their middles, then N on damaged files, drawings and
+//! saved records, and one on a whole file, drawing or record after each seven of
+//! them.
 //!
 //!     cargo run --release --offline --example requests -- N SEED > STREAM
 //!
-//! How often each side of each limit occurs, and each step of a total to its
-//! ceiling, is counted and printed to standard error; where one does not, the
-//! program fails.
+//! How often each side of each limit occurs, each step of a total to its ceiling
+//! and each limit of a middle, is counted and printed to standard error; where one
+//! does not, the program fails.
 //!
 //! Every number is little-endian. A request is 108 bytes, then the file, or the
 //! numbers that a write is given, four bytes each, or the saved record, then the
@@ -44,26 +45,31 @@ mod limited;
 mod limits;
 mod longest;
 mod look;
+mod middles;
 mod reached;
 mod request;
 #[path = "../../tests/common/requests.rs"]
 mod requests;
 mod sides;
+mod sums;
 mod write_limits;
 
 use drawn::drawn;
 use longest::longest;
+use middles::middles;
 use reached::Reached;
 use reference::generate::SplitMix64;
 use request::Request;
 use sides::{least, Sides};
 use std::io::{self, BufWriter, Write};
+use sums::Sums;
 
 /// Writes requests and counts them.
 struct Stream<W: Write> {
     to: W,
     sides: Sides,
     reached: Reached,
+    sums: Sums,
     requests: u64,
 }
 
@@ -72,13 +78,15 @@ impl<W: Write> Stream<W> {
         self.requests += 1;
         self.sides.count(request);
         self.reached.count(request);
+        self.sums.count(request);
         request.write(&mut self.to)
     }
 
     /// Every request of the stream.
     fn put_all(&mut self, random: &mut SplitMix64, damaged: u64) -> io::Result<()> {
-        let first = [limits::at_limits(random), longest(random)].concat();
-        first.iter().try_for_each(|request| self.put(request))?;
+        let first = [limits::at_limits, longest, middles].map(|made| made(random));
+        let mut first = first.iter().flatten();
+        first.try_for_each(|request| self.put(request))?;
         for i in 1..=damaged {
             self.put(&drawn(random, true))?;
             if i % 7 == 0 {
@@ -101,15 +109,17 @@ fn main() -> io::Result<()> {
         to: BufWriter::new(io::stdout().lock()),
         sides: Sides::default(),
         reached: Reached::default(),
+        sums: Sums::default(),
         requests: 0,
     };
     stream.put_all(&mut SplitMix64::new(seed), damaged)?;
-    let Stream { sides, reached, .. } = &stream;
-    eprint!("{}\n{}", sides.table(), reached.table());
-    let counts = sides.counts().into_iter().chain(reached.counts());
-    let least = least(counts).map_err(io::Error::other)?;
+    let (sides, reached, sums) = (&stream.sides, &stream.reached, &stream.sums);
+    eprint!("{}\n{}\n{}", sides.table(), reached.table(), sums.table());
+    let counts = [sides.counts(), reached.counts(), sums.counts()].concat();
+    let least = least(counts.into_iter()).map_err(io::Error::other)?;
     eprintln!(
-        "{} requests, {least} or more on each side of each limit and of each step of a total, in each call that has it",
+        "{} requests, {least} or more on each side of each limit, of each step of a total and at each limit of a middle, \
+         in each call that has it",
         stream.requests
     );
     Ok(())

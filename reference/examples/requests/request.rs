@@ -85,7 +85,7 @@ pub fn six<T: Copy>(a: [T; 3], b: [T; 3], bits: fn(T) -> u32) -> [u32; 6] {
 
 impl Request {
     /// The ray in steps.
-    fn steps(&self) -> Ray {
+    pub fn steps(&self) -> Ray {
         let [ax, ay, az, bx, by, bz] = self.ray.map(|bits| bits as i32);
         Ray {
             a: [ax, ay, az],
