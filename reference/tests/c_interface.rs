@@ -8,8 +8,9 @@ mod prototypes;
 
 use prototypes::{c_entries, rattle_entries, Entry};
 use reference::cast::{self, Column, FirstHit, FullCast, Mark};
-use reference::field::Ray;
-use reference::generate::{self, Shape, SplitMix64};
+use reference::field::{field_on_ray, Ray};
+use reference::fraction::Fraction;
+use reference::generate::{self, Shape, SplitMix64, STYLES};
 use reference::march::marching_cast;
 use reference::part::{self, FileBuilder};
 use std::collections::{BTreeMap, BTreeSet};
@@ -402,19 +403,21 @@ fn readers_in_c99_and_cpp_take_numbers_apart() {
     }
 }
 
+/// Parts that differ in all their numbers.
+const SHAPE: Shape = Shape {
+    points: (1, 9),
+    reach: 600,
+    radius: (50, 1024),
+    weight: (-4096, 4096),
+    iso: (1, 4096),
+};
+
 /// The width that the header gives to the bounds at a place; file K at (1, 0, 0) has the whole of it.
 #[test]
 fn the_width_of_the_bounds_at_a_place() {
-    let shape = Shape {
-        points: (1, 9),
-        reach: 600,
-        radius: (50, 1024),
-        weight: (-4096, 4096),
-        iso: (1, 4096),
-    };
     let mut random = SplitMix64::new(131_071);
     for _ in 0..2000 {
-        let part = generate::part(&mut random, &shape);
+        let part = generate::part(&mut random, &SHAPE);
         let at = [0; 3].map(|_: i32| random.between(-600, 600) as i32);
         let file = FileBuilder::from(&part).build();
         let bounds = cast::bounds_at(&file, at).expect("bounds");
@@ -426,6 +429,88 @@ fn the_width_of_the_bounds_at_a_place() {
     let bounds = cast::bounds_at(&k, [1, 0, 0]).expect("bounds");
     assert_eq!(bounds.high - bounds.low, 131_071 * 4);
     let said = "high - low is at most 131,071 times";
+    assert!(read("include/fenalukki.h").contains(said));
+}
+
+/// What `columns.c` prints of these parts, or of its own.
+fn columns(name: &str, parts: &[PathBuf]) -> String {
+    let program = c99(name, &["reference/tests/c_interface/columns.c"]);
+    let output = Command::new(program).args(parts).output();
+    text(output.expect("starts"))
+}
+
+/// File K's column on the ray of document 02, and a strut between two middles: it has no bit, and its ticks are crossing.
+#[test]
+fn columns_through_the_c_entries() {
+    let lines = [
+        "K 65575",
+        "crossing 330-330 693-693",
+        "inside 331-692",
+        "solid 331-692",
+        "counted 65575",
+        "solid 331-692",
+        "totals 1 39 0",
+        "strut 65575",
+        "crossing 511-512",
+        "inside",
+        "solid",
+        "",
+    ];
+    assert_eq!(columns("columns", &[]), lines.join("\n"));
+}
+
+/// Where a middle is a whole step, a host can work out a column's bit from the mark and the bounds at that place.
+#[test]
+fn bits_by_marks_and_bounds() {
+    let parts = ["bracket", "core", "core-cut", "core-sum", "k", "pad"];
+    let paths = parts.map(|part| root().join(format!("examples/parts/{part}.part")));
+    let output = columns("columns_of_parts", &paths);
+    assert_eq!(output.lines().count(), parts.len());
+    for (line, part) in output.lines().zip(parts) {
+        let numbers = line.split(' ').skip(1).step_by(2).map(str::parse);
+        let numbers: Vec<u32> = numbers.map(|number| number.expect("a number")).collect();
+        let [crossing, solid, wrong] = numbers[..] else {
+            panic!("{part}: {line}");
+        };
+        assert!(
+            0 < solid && solid < crossing && wrong == 0,
+            "{part}: {line}"
+        );
+    }
+}
+
+/// The bits of a column and the marks of a full cast, by the reference.
+fn bits_and_marks(file: &[u8], ray: &Ray) -> ([u8; 128], [u8; 1024]) {
+    let (mut bits, mut marks) = ([0; 128], [0; 1024]);
+    let probes = cast::column(file, ray, &mut bits).probes();
+    let full = cast::full_cast(file, ray, u32::MAX, &mut marks).probes();
+    assert_eq!(probes, full);
+    (bits, marks)
+}
+
+/// The rounding that the header gives to a bit, in exact fractions, at the middles of crossing ticks.
+#[test]
+fn the_rounding_of_a_bit() {
+    let mut random = SplitMix64::new(16_384);
+    let mut seen = [0; 2];
+    for i in 0..600 {
+        let part = generate::part(&mut random, &SHAPE);
+        let ray = generate::ray(&mut random, &part, STYLES[i % STYLES.len()]);
+        let file = FileBuilder::from(&part).build();
+        let weights: i64 = part.nodes.iter().map(|node| i64::from(node.w).abs()).sum();
+        let rounding = Fraction::new(weights.into(), 16_384).expect("a fraction");
+        let iso = Fraction::from(i64::from(part.iso));
+        let (bits, marks) = bits_and_marks(&file, &ray);
+        for tick in (0..1024).filter(|&tick| marks[tick] == 1) {
+            let field = field_on_ray(&part, &ray, 2 * tick as i64 + 1, 2048).expect("a tree");
+            let bit = usize::from(bits[tick / 8] >> (tick % 8) & 1);
+            let right = [field < &iso + &rounding, iso <= &field + &rounding];
+            assert!(right[bit], "tick {tick} of {ray:?} {part:?}");
+            seen[bit] += 1;
+        }
+    }
+    assert!(seen.iter().all(|&ticks| ticks > 500), "{seen:?}");
+    let said = "the size of the weight\n * divided by 16,384.";
     assert!(read("include/fenalukki.h").contains(said));
 }
 
@@ -589,7 +674,7 @@ fn a_tour_of_a_refused_part() {
     let output = edited_tour("spoiled_tour", &edits);
     let sections: Vec<&str> = output.split("\n\n").collect();
     assert_eq!(sections.len(), 14);
-    let counts = [1, 1, 1, 1, 3, 3, 4, 3, 4, 6];
+    let counts = [1, 1, 1, 1, 4, 3, 4, 3, 4, 6];
     for (section, refused) in sections[1..11].iter().zip(counts) {
         let lines = section.lines().rev().take(refused);
         let said = lines.filter(|line| line.contains("refused 5, ")).count();
@@ -686,7 +771,7 @@ fn the_records_of_the_worked_cut() {
     assert!(output.contains(&records.join("\n")), "{records:?}");
 }
 
-/// The document's file, its plane and its cast are the tour's.
+/// The document's file, its plane, its cast and its column are the tour's.
 #[test]
 fn the_format_shows_what_the_tour_prints() {
     let (format, tour) = (read("docs/FORMAT.md"), read("examples/tour.out"));
@@ -695,6 +780,7 @@ fn the_format_shows_what_the_tour_prints() {
         (indented(&format, "  0 01 00"), 6),
         (indented(&format, "......"), 32),
         (cast, 9),
+        (indented(&format, "  solid 134 to"), 2),
     ] {
         assert_eq!(lines.len(), count);
         assert!(tour.contains(&lines.join("\n")), "{lines:?}");
