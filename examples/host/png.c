@@ -8,6 +8,7 @@
 enum { MIN_MATCH = 3, MAX_MATCH = 257 }; /* 258 has a code of its own */
 enum { END_OF_BLOCK = 256, FIRST_LENGTH = 257 };
 enum { FILTER_UP = 2 };
+enum { GREY = 0, BY_PALETTE = 3 };
 
 struct png {
     FILE *file;
@@ -142,7 +143,8 @@ static void deflate_row(struct png *png, const uint8_t *row, const uint8_t *abov
         deflate_byte(png, (uint8_t)(row[i] - (above == NULL ? 0 : above[i])));
 }
 
-static void write_header(FILE *file, uint32_t width, uint32_t height, int bits)
+static void write_header(FILE *file, uint32_t width, uint32_t height, int bits,
+                         const struct png_palette *palette)
 {
     static const uint8_t signature[] = {0x89, 'P', 'N', 'G', '\r', '\n', 0x1a, '\n'};
     uint8_t header[13] = {0};
@@ -150,8 +152,11 @@ static void write_header(FILE *file, uint32_t width, uint32_t height, int bits)
     set32(header, width);
     set32(header + 4, height);
     header[8] = (uint8_t)bits;
+    header[9] = palette == NULL ? GREY : BY_PALETTE;
     fwrite(signature, 1, sizeof signature, file);
     write_chunk(file, "IHDR", header, sizeof header);
+    if (palette != NULL)
+        write_chunk(file, "PLTE", palette->colours, 3 * palette->count);
 }
 
 /* The zlib header, and the only block: its header, the rows, its end. */
@@ -181,7 +186,7 @@ static void write_end(struct png *png)
 }
 
 int png_write(const char *path, uint32_t width, uint32_t height, int bits,
-              const uint8_t *rows)
+              const struct png_palette *palette, const uint8_t *rows)
 {
     struct png png = {0};
     int failed;
@@ -191,7 +196,7 @@ int png_write(const char *path, uint32_t width, uint32_t height, int bits,
     png.file = fopen(path, "wb");
     if (png.file == NULL)
         return 0;
-    write_header(png.file, width, height, bits);
+    write_header(png.file, width, height, bits, palette);
     deflate_rows(&png, rows, ((size_t)width * (size_t)bits + 7) / 8, height);
     write_end(&png);
     failed = ferror(png.file);

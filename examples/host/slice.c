@@ -1,9 +1,9 @@
-/* A host: slice PART PICTURE.png [AXIS PLACE [march]] casts rays through the part
- * file PART and writes a picture: a plane at right angles to an axis, a depth
- * image, or where along a plane's rays a marching cast takes fewer probes than a
- * full cast and where more. All arithmetic is in whole numbers, so the pictures
- * are the same on every machine. Lengths are in steps of 1/64 mm, coordinates
- * -2,047 to 2,047. */
+/* A host: slice PART PICTURE.png [AXIS PLACE [march | ticks TICK ROW]] casts rays
+ * through the part file PART and writes a picture: a plane at right angles to an
+ * axis, a depth image, where along a plane's rays a marching cast takes fewer
+ * probes than a full cast and where more, or some of a plane's ticks, large. All
+ * arithmetic is in whole numbers, so the pictures are the same on every machine.
+ * Lengths are in steps of 1/64 mm, coordinates -2,047 to 2,047. */
 #include "fenalukki.h"
 #include "png.h"
 
@@ -35,10 +35,11 @@ static int read_part(const char *path, struct part *part)
     return !failed;
 }
 
+/* In grey, unless there is a palette. */
 static int write_picture(const char *path, uint32_t width, uint32_t height, int bits,
-                         const uint8_t *rows)
+                         const struct png_palette *palette, const uint8_t *rows)
 {
-    int written = png_write(path, width, height, bits, rows);
+    int written = png_write(path, width, height, bits, palette, rows);
 
     if (!written)
         fprintf(stderr, "slice: cannot write %s\n", path);
@@ -104,15 +105,27 @@ static void set_ends(const struct plane *plane, int32_t height, int32_t a[3], in
     b[along_rows[plane->axis]] = PLANE_END;
 }
 
+static uint32_t cast_column(const struct part *part, const int32_t a[3], const int32_t b[3],
+                            uint8_t *bits)
+{
+    return fenalukki_column(part->bytes, part->length, a[0], a[1], a[2], b[0], b[1], b[2],
+                            bits, ROW_BYTES);
+}
+
+/* The height of a row's middle. */
+static int32_t height_of(int row)
+{
+    return PLANE_END - 1 - 2 * row;
+}
+
 /* Answers the number of the row's column. */
 static uint32_t cast_row(const struct part *part, const struct plane *plane, int row,
                          uint8_t *bits)
 {
     int32_t a[3], b[3];
 
-    set_ends(plane, PLANE_END - 1 - 2 * row, a, b);
-    return fenalukki_column(part->bytes, part->length, a[0], a[1], a[2], b[0], b[1], b[2],
-                            bits, ROW_BYTES);
+    set_ends(plane, height_of(row), a, b);
+    return cast_column(part, a, b, bits);
 }
 
 static int write_plane(const struct part *part, const struct plane *plane, const char *path)
@@ -131,7 +144,7 @@ static int write_plane(const struct part *part, const struct plane *plane, const
         probes += answer % FIRST_ANSWER;
         solid += reverse_row(rows[i]);
     }
-    if (!write_picture(path, 8 * ROW_BYTES, PLANE_ROWS, 1, rows[0]))
+    if (!write_picture(path, 8 * ROW_BYTES, PLANE_ROWS, 1, NULL, rows[0]))
         return 0;
     printf("%s: plane %c %ld, %d columns, %lu probes, %lu ticks solid\n", path,
            axes[plane->axis], (long)plane->place, PLANE_ROWS, probes, solid);
@@ -269,10 +282,108 @@ static int write_march(const struct part *part, const struct plane *plane, const
         else
             return 0;
     }
-    if (!write_picture(path, TICKS, PLANE_ROWS, 8, rows[0]))
+    if (!write_picture(path, TICKS, PLANE_ROWS, 8, NULL, rows[0]))
         return 0;
     printf("%s: plane %c %ld, %d rays", path, axes[plane->axis], (long)plane->place, BANDS);
     print_sums(sums);
+    return 1;
+}
+
+/* Ticks of a plane's rows, large: a band of pixels for a row and a cell of it for a
+ * tick, from one row and one tick on. An inside tick is white, an empty one dark, a
+ * crossing one blue if its bit is 1 and orange if it is 0. It is light where the
+ * ray is solid, by the column of the piece of the row that is shown: a pixel is
+ * one of that ray's ticks. */
+
+enum { CELLS = 32, CELL = TICKS / CELLS, WINDOW_ROWS = 20, WINDOW_HEIGHT = CELL * WINDOW_ROWS };
+enum { IS_EMPTY, IS_LEFT_OUT, IS_KEPT, IS_INSIDE, KINDS };
+
+struct window {
+    int32_t tick, row; /* the first ones */
+};
+
+/* Of a row's ticks, and of those of its piece in the window. */
+struct ticks {
+    uint8_t marks[TICKS], bits[ROW_BYTES], piece[ROW_BYTES];
+};
+
+/* Two for each kind, the second where the piece's bit is 1; and that of lines. */
+static const uint8_t colours[2 * KINDS + 1][3] = {
+    {24, 26, 32}, {255, 255, 255},
+    {214, 96, 20}, {250, 204, 60},
+    {36, 104, 190}, {150, 200, 250},
+    {24, 26, 32}, {255, 255, 255},
+    {78, 84, 96},
+};
+static const struct png_palette palette = {colours[0], 2 * KINDS + 1};
+
+static int kind_of(const struct ticks *ticks, int tick)
+{
+    if (ticks->marks[tick] != FENALUKKI_CROSSING)
+        return ticks->marks[tick] == FENALUKKI_INSIDE ? IS_INSIDE : IS_EMPTY;
+    return fenalukki_bit(ticks->bits, tick) ? IS_KEPT : IS_LEFT_OUT;
+}
+
+static int is_answered(const char *call, uint32_t answer)
+{
+    if (answer < FIRST_ANSWER)
+        print_refusal(call, answer);
+    return answer >= FIRST_ANSWER;
+}
+
+/* Answers 1 unless a call is refused. */
+static int cast_window(const struct part *part, const struct plane *plane,
+                       const struct window *window, int row, struct ticks *ticks)
+{
+    int along = along_rows[plane->axis];
+    int32_t a[3], b[3];
+    uint32_t marks;
+
+    set_ends(plane, height_of(window->row + row), a, b);
+    marks = fenalukki_full_cast(part->bytes, part->length, a[0], a[1], a[2], b[0], b[1], b[2],
+                                FENALUKKI_ENOUGH, ticks->marks, sizeof ticks->marks);
+    if (!is_answered("full cast", marks) ||
+        !is_answered("column", cast_column(part, a, b, ticks->bits)))
+        return 0;
+    a[along] += 2 * window->tick;
+    b[along] = a[along] + 2 * CELLS;
+    return is_answered("column", cast_column(part, a, b, ticks->piece));
+}
+
+/* Colours a row of pixels: the first of a band is a line. */
+static void colour_row(const struct ticks *ticks, int first, int is_line, uint8_t *pixels)
+{
+    int i;
+
+    for (i = 0; i < TICKS; i++) {
+        int colour = 2 * kind_of(ticks, first + i / CELL) + fenalukki_bit(ticks->piece, i);
+
+        pixels[i] = (uint8_t)(is_line || i % CELL == 0 ? 2 * KINDS : colour);
+    }
+}
+
+static int write_ticks(const struct part *part, const struct plane *plane,
+                       const struct window *window, const char *path)
+{
+    static uint8_t rows[WINDOW_HEIGHT][TICKS];
+    static struct ticks ticks;
+    unsigned long counts[KINDS] = {0};
+    int row, i;
+
+    for (row = 0; row < WINDOW_ROWS; row++) {
+        if (!cast_window(part, plane, window, row, &ticks))
+            return 0;
+        for (i = 0; i < CELLS; i++)
+            counts[kind_of(&ticks, window->tick + i)]++;
+        for (i = 0; i < CELL; i++)
+            colour_row(&ticks, window->tick, i == 0, rows[CELL * row + i]);
+    }
+    if (!write_picture(path, TICKS, WINDOW_HEIGHT, 8, &palette, rows[0]))
+        return 0;
+    printf("%s: plane %c %ld, %d ticks of %d rays; %lu inside, %lu crossing and solid, ", path,
+           axes[plane->axis], (long)plane->place, CELLS, WINDOW_ROWS, counts[IS_INSIDE],
+           counts[IS_KEPT]);
+    printf("%lu crossing and not\n", counts[IS_LEFT_OUT]);
     return 1;
 }
 
@@ -373,7 +484,7 @@ static int write_depth(const struct part *part, const char *path)
     if (!cast_depths(part, &depths))
         return 0;
     shade(&depths, greys);
-    if (!write_picture(path, WIDTH, HEIGHT, 8, greys))
+    if (!write_picture(path, WIDTH, HEIGHT, 8, NULL, greys))
         return 0;
     printf("%s: depth, %d first hits, %lu probes, %lu rays hit\n", path, PIXELS,
            depths.probes, depths.hits);
@@ -399,14 +510,23 @@ static int read_plane(char **words, struct plane *plane)
     return read_number(words[1], &plane->place);
 }
 
+/* The first tick and the first row of those that the picture has room for. */
+static int read_window(char **words, struct window *window)
+{
+    return read_number(words[0], &window->tick) && read_number(words[1], &window->row) &&
+           window->tick >= 0 && window->tick <= TICKS - CELLS && window->row >= 0 &&
+           window->row <= PLANE_ROWS - WINDOW_ROWS;
+}
+
 static int print_usage(void)
 {
     fprintf(stderr,
-            "usage: slice PART PICTURE.png [AXIS PLACE [march]]\n"
-            "With AXIS x, y or z: the plane at PLACE on it, white where a tick is inside or\n"
-            "crossing; with march: how many probes fewer (brighter) or more (darker) a\n"
-            "marching cast takes to each tick than a full cast. Without: the part seen\n"
-            "obliquely, the brighter the nearer.\n"
+            "usage: slice PART PICTURE.png [AXIS PLACE [march | ticks TICK ROW]]\n"
+            "With AXIS x, y or z: the plane at PLACE on it, white where a column's bit is 1;\n"
+            "with march: how many probes fewer (brighter) or more (darker) a marching cast\n"
+            "takes to each tick than a full cast; with ticks: 32 ticks from TICK on, 0 to\n"
+            "992, of 20 rows from ROW on, 0 to 1004. Without: the part seen obliquely, the\n"
+            "brighter the nearer.\n"
             "Status 1 where a call is refused, with its number, or a file cannot be\n"
             "read or written.\n");
     return 0;
@@ -416,15 +536,19 @@ int main(int argc, char **argv)
 {
     static struct part part;
     struct plane plane = {0, 0};
+    struct window window = {0, 0};
     int marches = argc == 6 && strcmp(argv[5], "march") == 0;
+    int zooms = argc == 8 && strcmp(argv[5], "ticks") == 0 && read_window(argv + 6, &window);
     int written;
 
-    if (argc != 3 && !((argc == 5 || marches) && read_plane(argv + 3, &plane)))
+    if (argc != 3 && !((argc == 5 || marches || zooms) && read_plane(argv + 3, &plane)))
         written = print_usage();
     else if (!read_part(argv[1], &part))
         written = 0;
     else if (marches)
         written = write_march(&part, &plane, argv[2]);
+    else if (zooms)
+        written = write_ticks(&part, &plane, &window, argv[2]);
     else if (argc == 5)
         written = write_plane(&part, &plane, argv[2]);
     else
