@@ -223,7 +223,8 @@ static void show_plane(const struct part *part)
     print_plane(part, 0, LINES);
 }
 
-/* 5. Full casts: complete, and spent. */
+/* 5. Full casts: complete, and spent; and a column on the same ray, which has of
+ * each crossing tick whether its middle is solid. */
 
 static const char *mark_word(int mark)
 {
@@ -279,12 +280,41 @@ static void print_cast(const struct part *part, uint32_t budget)
         print_runs(marks);
 }
 
+/* Prints the run of solid ticks that begins with one, if that is solid, and
+ * returns the tick after the next that is not. */
+static int print_solid(const uint8_t *bits, int first)
+{
+    int after = first;
+
+    while (after < FENALUKKI_TICKS && fenalukki_bit(bits, after))
+        after++;
+    if (after > first)
+        printf("  solid %d to %d\n", first, after - 1);
+    return after + 1;
+}
+
+static void print_column(const struct part *part)
+{
+    uint8_t bits[FENALUKKI_COLUMN_BYTES];
+    uint32_t number = fenalukki_column(part->bytes, part->length, 0, 1024, 0, 0, -1024, 0, bits,
+                                       sizeof bits);
+    int tick = 0;
+
+    printf("column: ");
+    if (is_refused(number))
+        return;
+    printf("%lu probes\n", (unsigned long)fenalukki_probes(number));
+    while (tick < FENALUKKI_TICKS)
+        tick = print_solid(bits, tick);
+}
+
 static void show_casts(const struct part *part)
 {
-    printf("\n5. Full casts from (0, 1024, 0) to (0, -1024, 0)\n");
+    printf("\n5. Full casts from (0, 1024, 0) to (0, -1024, 0), and a column\n");
     print_cast(part, FENALUKKI_ENOUGH);
     print_cast(part, 30);
     print_cast(part, 0);
+    print_column(part);
 }
 
 /* 6. Marching casts on the same ray: complete, with the full cast's marks and
