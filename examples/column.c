@@ -17,7 +17,7 @@ int main(int argc, char **argv)
         printf("refused %d\n", fenalukki_refusal(answer));
         return 1;
     }
-    for (i = 0; i < FENALUKKI_COLUMN_BYTES; i++) /* eight ticks a sign */
+    for (i = 0; i < FENALUKKI_COLUMN_BYTES; i++) /* eight ticks a sign: # if any is solid */
         putchar(bits[i] ? '#' : '.');
     printf("\nprobes %lu\n", (unsigned long)fenalukki_probes(answer));
     return 0;

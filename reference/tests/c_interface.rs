@@ -497,8 +497,8 @@ fn the_rounding_of_a_bit() {
         let part = generate::part(&mut random, &SHAPE);
         let ray = generate::ray(&mut random, &part, STYLES[i % STYLES.len()]);
         let file = FileBuilder::from(&part).build();
-        let weights: i64 = part.nodes.iter().map(|node| i64::from(node.w).abs()).sum();
-        let rounding = Fraction::new(weights.into(), 16_384).expect("a fraction");
+        let weights = part.nodes.iter().map(|node| i128::from(node.w).abs());
+        let rounding = Fraction::new(weights.sum(), 16_384).expect("a fraction");
         let iso = Fraction::from(i64::from(part.iso));
         let (bits, marks) = bits_and_marks(&file, &ray);
         for tick in (0..1024).filter(|&tick| marks[tick] == 1) {

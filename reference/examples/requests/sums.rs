@@ -4,8 +4,7 @@
 use crate::limited::grouped;
 use crate::request::{casting, Request, CALLS, COLUMN, COUNTED};
 use reference::cast::{full_cast, Mark, TICKS};
-use reference::field::place_bounds;
-use reference::fraction::Fraction;
+use reference::field::middle_bounds;
 use reference::part::read;
 
 /// The most and the least that the bounds at a crossing tick's middle add up to.
@@ -21,7 +20,7 @@ struct Limit {
 
 const LIMITS: [Limit; 9] = [
     Limit {
-        name: "the limit",
+        name: "2 × iso × 2^32",
         is: |sums, limit| sums.contains(&limit),
     },
     Limit {
@@ -33,11 +32,11 @@ const LIMITS: [Limit; 9] = [
         is: |sums, limit| sums.contains(&(limit + 1)),
     },
     Limit {
-        name: "any less",
+        name: "less",
         is: |sums, limit| sums.iter().any(|&sum| sum < limit),
     },
     Limit {
-        name: "any more",
+        name: "more",
         is: |sums, limit| sums.iter().any(|&sum| sum > limit),
     },
     Limit {
@@ -110,9 +109,7 @@ fn middles_of(request: &Request) -> (Vec<i64>, i64) {
     full_cast(&request.file, &ray, u32::MAX, &mut marks);
     let crossing = (0..marks.len()).filter(|&tick| marks[tick] == Mark::Crossing.byte());
     let sum_at = |tick: usize| {
-        let middle =
-            Fraction::new(2 * tick as i128 + 1, 2 * i128::from(TICKS)).expect("a fraction");
-        let bounds = place_bounds(&part, &ray.place(&middle)).expect("a tree");
+        let bounds = middle_bounds(&part, &ray, tick as u32).expect("a tree");
         let sum = bounds.low + bounds.high;
         let bit = request.written[tick / 8] >> (tick % 8) & 1;
         assert_eq!(bit == 1, sum >= limit, "tick {tick}");
