@@ -493,7 +493,7 @@ fn bits_and_marks(file: &[u8], ray: &Ray) -> ([u8; 128], [u8; 1024]) {
 fn the_rounding_of_a_bit() {
     let mut random = SplitMix64::new(16_384);
     let mut seen = [0; 2];
-    for i in 0..600 {
+    for i in 0..20_000 {
         let part = generate::part(&mut random, &SHAPE);
         let ray = generate::ray(&mut random, &part, STYLES[i % STYLES.len()]);
         let file = FileBuilder::from(&part).build();
@@ -509,7 +509,7 @@ fn the_rounding_of_a_bit() {
             seen[bit] += 1;
         }
     }
-    assert!(seen.iter().all(|&ticks| ticks > 500), "{seen:?}");
+    assert!(seen.iter().all(|&ticks| ticks > 1000), "{seen:?}");
     let said = "the size of the weight\n * divided by 16,384.";
     assert!(read("include/fenalukki.h").contains(said));
 }
