@@ -165,14 +165,14 @@
  *   A probe is one working out of the field's bounds over a stretch of ticks.
  *   The time of a cast goes by its probes times the part's records. The most
  *   are 2,047 probes, in a marching cast 2,052, of 511 records. A column also
- *   works out the bounds at the middle of each crossing tick, of at most 1,024:
- *   each is as much work as a probe and is not counted as one. A column of that
- *   size, of 256 points, 3 sums and 252 cuts that leave every tick undecided,
- *   takes 70 million instructions by callgrind, which is 67 for a probe and
- *   record, and a marching cast as many; no call tried took more. With 255 sums
- *   a column takes 66 million. A smaller budget makes fewer probes and so bounds
- *   a call's time; a column has no budget. docs/BENCHMARKS.md has the figures of
- *   other parts.
+ *   works out the bounds at the middle of each crossing tick, at most 1,024
+ *   times; each is as much work as a probe and is not counted as one. On a part
+ *   of 256 points, 3 sums and 252 cuts that leave every tick undecided, a column
+ *   takes 105 million instructions by callgrind, which is 67 for a record and
+ *   each of the 3,071 times that the bounds are worked out; a full or a marching
+ *   cast takes 70 million. No call tried took more. With 255 sums a column takes
+ *   100 million. A smaller budget makes fewer probes and so bounds a call's time;
+ *   a column has no budget. docs/BENCHMARKS.md has the figures of other parts.
  *
  * Coming from version 2
  *
