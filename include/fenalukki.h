@@ -171,8 +171,9 @@
  *   takes 105 million instructions by callgrind, which is 67 for a record and
  *   each of the 3,071 times that the bounds are worked out; a full or a marching
  *   cast takes 70 million. No call tried took more. With 255 sums a column takes
- *   100 million. A smaller budget makes fewer probes and so bounds a call's time;
- *   a column has no budget. docs/BENCHMARKS.md has the figures of other parts.
+ *   100 million. A smaller budget makes fewer probes and so bounds a call's
+ *   time; a column has no budget. docs/BENCHMARKS.md has the figures of other
+ *   parts.
  *
  * Coming from version 2
  *
