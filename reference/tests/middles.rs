@@ -19,7 +19,7 @@ use reference::quick::TickField;
 use requests::GROUPS;
 use std::array::from_fn;
 use std::collections::BTreeMap;
-use worked::{at_y, file_k, AXIS};
+use worked::{all_crossing, at_y, file_k, AXIS};
 
 /// Spans by the quick path, and middles by the exact fractions.
 struct ExactMiddles {
@@ -274,19 +274,7 @@ fn a_field_equal_to_iso_by_rounded_bounds() {
 /// their middles are not counted as probes.
 #[test]
 fn middles_are_no_probes() {
-    let file = FileBuilder::new(1)
-        .point(1024, [0; 3], 4096)
-        .point(1024, [0; 3], -4096)
-        .sum()
-        .point(1024, [0; 3], 4096)
-        .sum()
-        .point(1024, [0; 3], -4095)
-        .sum()
-        .build();
-    let ray = Ray {
-        a: [100, 0, 0],
-        b: [700, 0, 0],
-    };
+    let (file, ray) = all_crossing();
     let (column, bits) = column_by::<ExactMiddles>(&file, &ray, 128);
     assert_eq!(column, Column::Done { probes: 2047 });
     assert_eq!(bits, [0; 128]);

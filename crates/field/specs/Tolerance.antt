@@ -29,7 +29,7 @@ sumOver f (operator o ∷ later) = sumOver f later
 unfoldable pub demanded : Solid → Ray → ℕ → Fraction
 demanded solid ray T = sumOver (demandedOf (solid .kernel) ray T) (items (solid .nodes))
 
--- the part of it that is for rounding, "S equal to 0": the size of the weight times slack, of every point; in degree 4, 1/16384 of it
+-- what is left of it with S equal to 0, for rounding alone: the size of the weight times slack, 1/16384 in degree 4, over the tree's points
 unfoldable pub roundingOf : Kernel → Node → Fraction
 roundingOf k p = times (pos (natAbs (p .weight))) (k .slack)
 

@@ -1,5 +1,6 @@
 //! Full casts, first hits and columns, by the halving search.
 
+use crate::worked::all_crossing;
 use crate::Case;
 use reference::cast::{column_by, first_hit, first_hit_by, full_cast, full_cast_by};
 use reference::cast::{judge, probe_count};
@@ -150,19 +151,7 @@ impl Case {
 /// Two large points that cancel keep every tick undecided: the most probes.
 #[test]
 fn most_probes() {
-    let file = FileBuilder::new(1)
-        .point(1024, [0; 3], 4096)
-        .point(1024, [0; 3], -4096)
-        .sum()
-        .point(1024, [0; 3], 4096)
-        .sum()
-        .point(1024, [0; 3], -4095)
-        .sum()
-        .build();
-    let ray = Ray {
-        a: [100, 0, 0],
-        b: [700, 0, 0],
-    };
+    let (file, ray) = all_crossing();
     let mut marks = [9; 1024];
     for budget in [2047, 2048, u32::MAX] {
         let cast = full_cast(&file, &ray, budget, &mut marks);
