@@ -362,21 +362,36 @@ static void colour_row(const struct ticks *ticks, int first, int is_line, uint8_
     }
 }
 
+static void colour_band(const struct ticks *ticks, int first, uint8_t rows[CELL][TICKS])
+{
+    int i;
+
+    for (i = 0; i < CELL; i++)
+        colour_row(ticks, first, i == 0, rows[i]);
+}
+
+/* Counts the ticks of a row in the window by kind. */
+static void count_kinds(const struct ticks *ticks, int first, unsigned long counts[KINDS])
+{
+    int i;
+
+    for (i = 0; i < CELLS; i++)
+        counts[kind_of(ticks, first + i)]++;
+}
+
 static int write_ticks(const struct part *part, const struct plane *plane,
                        const struct window *window, const char *path)
 {
     static uint8_t rows[WINDOW_HEIGHT][TICKS];
     static struct ticks ticks;
     unsigned long counts[KINDS] = {0};
-    int row, i;
+    int row;
 
     for (row = 0; row < WINDOW_ROWS; row++) {
         if (!cast_window(part, plane, window, row, &ticks))
             return 0;
-        for (i = 0; i < CELLS; i++)
-            counts[kind_of(&ticks, window->tick + i)]++;
-        for (i = 0; i < CELL; i++)
-            colour_row(&ticks, window->tick, i == 0, rows[CELL * row + i]);
+        count_kinds(&ticks, window->tick, counts);
+        colour_band(&ticks, window->tick, rows + CELL * row);
     }
     if (!write_picture(path, TICKS, WINDOW_HEIGHT, 8, &palette, rows[0]))
         return 0;
