@@ -1,6 +1,6 @@
 -- Columns (document 02, P6) as rows of a table that one theorem covers (`columns`): "For file K and the printed ray the solid ticks are then 331 to
--- 692" (`solid-ticks`); a middle at which the bounds add up to exactly 2 × iso × 2³²; and a strut thinner than a tick, whose ticks are crossing and
--- whose bits are 0 (`strut-marked`).
+-- 692" (`solid-ticks`); a middle at which the bounds add up to exactly 2 × iso × 2³²; and a strut thinner than a tick, whose bits are 0 and whose
+-- ticks are crossing (`strut-marked`).
 use mathlib.Core.Path.{_≡_, refl}
 use mathlib.Core.List.{List, [], _∷_, _++_, map}
 use Prim.Native.Nat.{ℕ, zero, suc, _^_}
@@ -97,7 +97,7 @@ unfolding
     stateOf spanState markOf solidBy middleSolid tickBit bitOf
 solid-ticks = refl
 
--- the strut's ticks are marked, and none of them has a bit
+-- the strut's ticks are marked; their bits are 0 in the row of `columns`
 pub strut-marked : rayMarks (solidOf strut) wide exponent ≡ replicate 511 emptyMark ++ replicate 2 crossingMark ++ replicate 511 emptyMark
 unfolding
     u16 u32 i16 isPoint iso distance start count nodeAt zeroBytes recordAt recordsFrom nodesFrom nodes ceil operatorOf itemOf items joinTop

@@ -88,6 +88,9 @@ rays =
     ∷ (along 0xc180_0000 0x4180_0000 0, 0, view.Spent (float 0) 0)
     -- "The same ray at y = 512", 8 mm: all empty, 1 probe
     ∷ (along 0xc180_0000 0x4180_0000 0x4100_0000, 1, view.Clear 1)
+    -- −363/64 mm to 661/64 mm, which starts in a crossing tick: 11 probes, the figure of tick 0 (document 02, P7), and spent with 10
+    ∷ (along 0xc0b5_8000 0x4125_4000 0, 11, view.Hit (float 0) 1 11)
+    ∷ (along 0xc0b5_8000 0x4125_4000 0, 10, view.Spent (float 0) 10)
     -- A = B, with 0 and minus zero; and a float that is not whole steps at both ends
     ∷ (along 0x3f80_0000 0x3f80_0000 0, 2047, view.Refused 13)
     ∷ (along 0x3c7f_ffff 0x3c7f_ffff 0, 2047, view.Refused 15)

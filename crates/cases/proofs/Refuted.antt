@@ -10,12 +10,13 @@
 --     cast-probes, march-probes                                the same, with the count of the halvings and of the march
 --     unlike                                                   a marching cast's marks are a full cast's: `alike`
 --     hit-probes                                               a first hit's order: `order`
+--     dear-hit, spent-late; spent-in-time                      what it costs: `prompt`; and that it is found: `in-time`
 --     as-hit, as-clear, as-spent; inexact-entry                a viewer's first hit: these four; `exact`
 --     constant-refusal, asked-13-first                         the equation of a full cast's answer
 --     two-nodes, not-enclosing, loose                          the check of a file (`Says`) and the bounds at a place (`PlaceSays`)
 use mathlib.Core.Path.{_≡_, refl, sym, ap, _∙_, subst}
 use mathlib.Core.List.{List}
-use Prim.Native.Nat.{ℕ, _/_, _%_, _^_, _≤_, _<_}
+use Prim.Native.Nat.{ℕ, _+_, _*_, _/_, _%_, _^_, _≤_, _<_}
 use native.Mathlib.Omega.{arith}
 use lib.ListN.{getD}
 use lib.Seq.{getD-take}
@@ -54,16 +55,17 @@ use Rattle.halving.specs.declared.CastAnswer.{CastAnswer}
 use Rattle.halving.specs.declared.CastAnswer.the-variants as cast
 use Rattle.halving.specs.declared.HitAnswer.the-variants as found
 use Rattle.halving.specs.Halving.{probeCount, spanMarks, walk, castLookedAt}
-use Rattle.halving.specs.FirstHit.{hitLookedAt}
+use Rattle.halving.specs.FirstHit.{hit, hitLookedAt}
 use Rattle.halving.proofs.Halving.{Walked}
 use Rattle.cast.specs.declared.ColumnAnswer.the-variants as column
 use Rattle.cast.specs.Ticks.{exponent, rayState}
 use Rattle.cast.specs.Column.{middleSolid, tickBit, bitOf, columnLookedAt}
 use Rattle.cast.specs.Questions.{endsDiffer, hitQuestions, bufferQuestions}
-use Rattle.cast.specs.Calls.{rayProbes, rayMarks, rayWalk, castAfter, fullCast}
-use Rattle.cast.specs.Demands.{Sound, Alone, AloneBits, Middles, Empty, AloneHit, Counted, CountedHit, SameOrder, CountedColumn}
+use Rattle.cast.specs.Calls.{rayProbes, rayMarks, rayWalk, castAfter, fullCast, hitAfter, firstHit}
+use Rattle.cast.specs.Demands.{Sound, Alone, AloneBits, Middles, Empty, AloneHit, FirstNotEmpty, HitAt}
+use Rattle.cast.specs.Demands.{Counted, CountedHit, SameOrder, PromptHit, FoundHit, CountedColumn}
 use Rattle.cast.specs.Demands.{MarkDemands, CastDemands, HitDemands, ColumnDemands}
-use Rattle.cast.proofs.Demands.{ray-walked}
+use Rattle.cast.proofs.Demands.{ray-walked, hit-demands}
 use Rattle.march.specs.Marching.{nextTick, nextLength, countFrom}
 use Rattle.march.specs.Calls.{marchProbes}
 use Rattle.march.specs.Demands.{Alike, MarchDemands}
@@ -208,6 +210,23 @@ module _ {budget probes : ℕ} {after : List ℕ} where
 
 -- ---- a first hit
 
+-- of the ray it is at tick 330
+hit-is : firstHit fileK ray 2047 ≡ found.Hit 330 crossingMark 15
+unfolding
+    u16 u32 i16 hasBytes zeros firstNo isPoint kindKnown coordinate inRange forPoint forOperator heldAfter nodeQuestions recordQuestions
+    recordsQuestions iso version distance marked trailerQuestions start count nodeAt zeroBytes recordAt recordsFrom records nodesFrom nodes
+    fileQuestions ceil operatorOf itemOf items joinTop step run treeValue kernelOf raySquare prepare distanceAt footInside footDistance lowQ highQ
+    qlo qhi weighted pointBounds joinBounds treeBounds stateOf spanState rayState positionInRange rayInRange rayQuestions endsDiffer hitQuestions
+    hit hitAfter firstHit
+hit-is = refl
+
+-- so that is the first tick that is not empty
+hit-first : FirstNotEmpty K ray 1024 330
+unfolding FirstNotEmpty AloneHit
+hit-first =
+    let d = rw hit-is at (hit-demands fileK ray 2047) in
+    (lit≤ tt, d .alone .3, λ e. omega (arith, marks-are .0, e))
+
 module _ {budget : ℕ} where
   -- a hit that is not the first: right halves first, say
   pub later-hit : {t mark probes : ℕ} → 330 < t → HitDemands K ray exponent budget (found.Hit t mark probes) → ⊥
@@ -235,6 +254,21 @@ module _ {budget : ℕ} where
     | yes h ↦ absurd (omega (arith, counts-are .1, d .order 14 .0 h))
     | no n ↦ elim (decLe p 15) [ yes h ↦ omega arith | no m ↦ absurd (omega (arith, counts-are .2, d .order 15 .1 (omega arith))) ]
   ])
+
+  -- 2 × 330 + 11 is 671: a hit that took more
+  pub dear-hit : {mark probes : ℕ} → 671 < probes → HitDemands K ray exponent budget (found.Hit 330 mark probes) → ⊥
+  unfolding PromptHit
+  dear-hit h d = omega (arith, d .prompt)
+
+  -- a search that is spent at a tick with the budget for a hit there
+  pub spent-late : {t probes : ℕ} → 2 * t + 11 ≤ budget → HitDemands K ray exponent budget (found.Spent t probes) → ⊥
+  unfolding PromptHit
+  spent-late h d = omega (arith, d .prompt)
+
+  -- and one that is spent anywhere, though the budget is enough for the hit at tick 330
+  pub spent-in-time : {t probes : ℕ} → 671 ≤ budget → HitDemands K ray exponent budget (found.Spent t probes) → ⊥
+  unfolding FoundHit HitAt
+  spent-in-time h d = d .in-time 330 hit-first h
 
   pub hit-spent-at-once : {t probes : ℕ} → probes < budget → HitDemands K ray exponent budget (found.Spent t probes) → ⊥
   unfolding CountedHit
@@ -311,7 +345,7 @@ steps-are = refl
 module _ {budget : ℕ} (a : ViewAnswer) (d : ViewDemands fileK seen exponent budget a) where
   by-steps : CountedHit K (stepsRay seen) exponent budget (inTicks 1024 a) → HitDemands K ray exponent budget (inTicks 1024 a)
   by-steps counted = subst (λ (r : Ray). HitDemands K r exponent budget (inTicks 1024 a)) steps-are
-      (record { alone = d .alone; counted = counted; order = d .order; sound = d .sound })
+      (record { alone = d .alone; counted = counted; order = d .order; prompt = d .prompt; in-time = d .in-time; sound = d .sound })
 
 module _ {budget probes : ℕ} where
   pub as-hit : {mark : ℕ} {entry : Float} → ViewDemands fileK seen exponent budget (view.Hit entry mark probes)

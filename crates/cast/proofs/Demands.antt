@@ -7,6 +7,7 @@ use mathlib.Core.List.{List, [], _∷_, _++_}
 use Prim.Native.Nat.{ℕ, _-_, _/_, _%_, _^_, _≤_, _<_}
 use native.Mathlib.Omega.{arith, pow-step}
 use native.Mathlib.Nat.{zero-add}
+use native.Mathlib.Decide.{decLt}
 use lib.ListN.{length, take, drop, getD, replicate, length-append, List·getD-append}
 use lib.Seq.{getD-take, length-take-le}
 use lib.Dec.{leb}
@@ -34,12 +35,14 @@ use Rattle.halving.specs.FirstHit.{hitLookedAt}
 use Rattle.halving.proofs.Halving.{Walked, walked, count-below, length-marks}
 use Rattle.halving.proofs.FirstHit.{Found, hits}
 use Rattle.halving.proofs.SameOrder.{spent-alike, clear-alike, hit-known}
+use Rattle.halving.proofs.Cost.{hit-cost, spent-cost}
 use Rattle.cast.specs.Column.{columnBytes, middleSolid, bitOf, packed, columnLookedAt}
 use Rattle.cast.specs.Ticks.{exponent, enough, rayState}
 use Rattle.cast.specs.Questions.{endsDiffer, hitQuestions, bufferQuestions}
 use Rattle.cast.specs.Calls.{rayProbes, rayMarks, rayWalk, rayHit, castAfter, fullCast, marksAfter, marksLeft}
 use Rattle.cast.specs.Calls.{hitAfter, firstHit, columnAfter, columnAnswer, bitsAfter, bitsLeft}
-use Rattle.cast.specs.Demands.{Sound, Alone, AloneBits, Middles, Empty, AloneHit, Counted, CountedHit, SameOrder, CountedColumn}
+use Rattle.cast.specs.Demands.{Sound, Alone, AloneBits, Middles, Empty, AloneHit, FirstNotEmpty, HitAt}
+use Rattle.cast.specs.Demands.{Counted, CountedHit, SameOrder, PromptHit, FoundHit, CountedColumn}
 use Rattle.cast.specs.Demands.{MarkDemands, CastDemands, HitDemands, ColumnDemands}
 use Rattle.cast.proofs.Bits.{bit-few, length-packed, packed-bit}
 use Rattle.cast.proofs.Middles.{middle-says}
@@ -164,6 +167,27 @@ module _ (solid : Solid) (ray : Ray) where
       hit-order (found.Clear p) e = clear-alike st budget k 0 0 e
       hit-order (found.Spent t p) e = spent-alike st budget k 0 0 e
 
+      hit-prompt : (f : HitAnswer) → rayHit solid ray k budget ≡ f → PromptHit k budget f
+      unfolding PromptHit
+      hit-prompt (found.Refused n) e = tt
+      hit-prompt (found.Hit t s p) e = omega (arith, hit-cost st budget k e)
+      hit-prompt (found.Clear p) e = tt
+      hit-prompt (found.Spent t p) e = omega (arith, spent-cost st budget k e)
+
+      -- of any answer that is right of the ticks and prompt: no tick before the first that is not empty is a hit, and none after it is reached
+      hit-in-time : (f : HitAnswer) → AloneHit solid ray (2 ^ k) f → PromptHit k budget f → FoundHit solid ray k budget f
+      unfolding AloneHit Empty PromptHit FoundHit FirstNotEmpty HitAt
+      hit-in-time (found.Refused n) alone prompt h first few = tt
+      hit-in-time (found.Hit t s p) (before, is, some, empty) prompt h (within, empties, not) few =
+          let same : t ≡ h = elim (decLt t h) [
+            | yes l ↦ absurd (omega (arith, empties t l, is))
+            | no g ↦ elim (decLt h t) [ yes l ↦ absurd (not (empty h l)) | no g′ ↦ omega arith ]
+          ] in
+          (same, sym is ∙ ap (λ (t : ℕ). markOf solid ray (2 ^ k) t) same)
+      hit-in-time (found.Clear p) empty prompt h (within, empties, not) few = not (empty h within)
+      hit-in-time (found.Spent t p) (before, empty) prompt h (within, empties, not) few =
+          elim (decLt h t) [ yes l ↦ not (empty h l) | no g ↦ absurd (omega arith) ]
+
       pub ray-found : Valid solid → Found st budget k 0 0 (rayHit solid ray k budget)
       ray-found valid = hits st budget (ray-nested solid valid ray (pow-pos k)) k 0 0 (omega arith)
 
@@ -179,14 +203,26 @@ module _ (solid : Solid) (ray : Ray) where
 
       pub hit-by : (v : Verdict) → (v ≡ Yes → Valid solid) → ((n : ℕ) → v ≡ No n → (1 ≤ n) × (n ≤ 13))
           → HitDemands solid ray k budget (hitAfter v solid ray k budget)
-      unfolding hitAfter hitLookedAt AloneHit CountedHit SameOrder
-      hit-by Yes valid number = record {
-        alone = found-alone (rayHit solid ray k budget) (ray-found (valid refl));
-        counted = found-counted (rayHit solid ray k budget) (ray-found (valid refl));
-        order = hit-order (rayHit solid ray k budget) refl;
-        sound = sound (valid refl) (pow-pos k) (hitLookedAt (2 ^ k) (rayHit solid ray k budget));
+      unfolding hitAfter hitLookedAt AloneHit CountedHit SameOrder PromptHit
+      hit-by Yes valid number =
+          let f = rayHit solid ray k budget in
+          let alone = found-alone f (ray-found (valid refl)) in
+          record {
+            alone = alone;
+            counted = found-counted f (ray-found (valid refl));
+            order = hit-order f refl;
+            prompt = hit-prompt f refl;
+            in-time = hit-in-time f alone (hit-prompt f refl);
+            sound = sound (valid refl) (pow-pos k) (hitLookedAt (2 ^ k) f);
+          }
+      hit-by (No n) valid number = record {
+        alone = tt;
+        counted = number n refl;
+        order = tt;
+        prompt = tt;
+        in-time = hit-in-time (found.Refused n) tt tt;
+        sound = no-ticks (2 ^ k);
       }
-      hit-by (No n) valid number = record { alone = tt; counted = number n refl; order = tt; sound = no-ticks (2 ^ k) }
 
   -- ---- a column has 2^exponent ticks
 

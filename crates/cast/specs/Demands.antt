@@ -1,5 +1,5 @@
--- What the casting calls promise beside their equations (demands 2 and 3; document 02, P6), of a solid and a ray. What speaks of marks alone holds
--- for any number T of ticks; what speaks of the halvings, for 2^k.
+-- What the casting calls promise beside their equations (demands 2 and 3; document 02, P6 and P7), of a solid and a ray. What speaks of marks alone
+-- holds for any number T of ticks; what speaks of the halvings, for 2^k.
 use mathlib.Core.Path.{_≡_}
 use mathlib.Core.List.{List}
 use Prim.Native.Nat.{ℕ, _+_, _*_, _/_, _%_, _^_, _≤_, _<_}
@@ -22,7 +22,7 @@ use Rattle.halving.specs.FirstHit.{hitLookedAt}
 use Rattle.cast.specs.declared.ColumnAnswer.{ColumnAnswer}
 use Rattle.cast.specs.declared.ColumnAnswer.the-variants as column
 use Rattle.cast.specs.Column.{bitOf, columnLookedAt}
-use Rattle.cast.specs.Ticks.{enough}
+use Rattle.cast.specs.Ticks.{enough, hitCost}
 use Rattle.cast.specs.Calls.{rayProbes, rayWalk}
 
 -- what a bit says of the field at a place: solid "is where the field is at least the iso-value", to within a tolerance
@@ -66,6 +66,17 @@ module _ (solid : Solid) (ray : Ray) (T : ℕ) where
   AloneHit (found.Clear probes) = Empty T
   AloneHit (found.Spent tick probes) = (tick < T) × Empty tick
 
+  -- tick h is the first that is not empty
+  unfoldable pub FirstNotEmpty : ℕ → Type 0
+  FirstNotEmpty h = (h < T) × Empty h × (markOf solid ray T h ≡ emptyMark → ⊥)
+
+  -- the answer, unless it is a refusal, is the hit at tick h, with the tick's mark
+  unfoldable pub HitAt : ℕ → HitAnswer → Type 0
+  HitAt h (found.Refused number) = Unit {0}
+  HitAt h (found.Hit tick mark probes) = (tick ≡ h) × (mark ≡ markOf solid ray T h)
+  HitAt h (found.Clear probes) = ⊥
+  HitAt h (found.Spent tick probes) = ⊥
+
 -- "a full cast is spent exactly when the probe count of the whole ray is more than its budget; the probes it reports are the smaller of the two", and
 -- there is a budget that "is always enough": for a ray of T ticks that takes `count` probes, of at most `most`. Spent, a cast leaves ticks not looked
 -- at. A refusal is 1 to 14.
@@ -79,6 +90,13 @@ pub record MarkDemands (solid : Solid) (ray : Ray) (T count most budget : ℕ) (
   pub alone : Alone solid ray T (castLookedAt T answer) after
   pub counted : Counted T count most budget answer
   pub sound : Sound solid ray T (castLookedAt T answer)
+
+-- P7: "a first hit found at tick h costs at most" `hitCost`, of 2^k ticks; and a search is spent only at a tick whose cost is more than its budget
+unfoldable pub PromptHit : (k budget : ℕ) → HitAnswer → Type 0
+PromptHit k budget (found.Refused number) = Unit {0}
+PromptHit k budget (found.Hit tick mark probes) = probes ≤ hitCost k tick
+PromptHit k budget (found.Clear probes) = Unit {0}
+PromptHit k budget (found.Spent tick probes) = budget < hitCost k tick
 
 module _ (solid : Solid) (ray : Ray) (k : ℕ) where
   -- a first hit, "always the probes": a clear ray's are the full cast's, a hit's are no more, and a spent search has made its whole budget, which is
@@ -100,6 +118,10 @@ module _ (solid : Solid) (ray : Ray) (k : ℕ) where
   SameOrder budget (found.Clear probes) = rayWalk solid ray k budget ≡ cast.Complete probes
   SameOrder budget (found.Spent tick probes) = rayWalk solid ray k budget ≡ cast.Spent tick probes
 
+  -- P7: "with a budget of that size or more such a hit is never answered as spent"
+  unfoldable pub FoundHit : ℕ → HitAnswer → Type 0
+  FoundHit budget answer = (h : ℕ) → FirstNotEmpty solid ray (2 ^ k) h → hitCost k h ≤ budget → HitAt solid ray (2 ^ k) h answer
+
   -- a column: "the probes, which are the full cast's". A refusal is 1 to 14.
   unfoldable pub CountedColumn : ColumnAnswer → Type 0
   CountedColumn (column.Refused number) = (1 ≤ number) × (number ≤ 14)
@@ -115,6 +137,8 @@ module _ (solid : Solid) (ray : Ray) (k : ℕ) where
     pub alone : AloneHit solid ray (2 ^ k) answer
     pub counted : CountedHit budget answer
     pub order : SameOrder budget answer
+    pub prompt : PromptHit k budget answer
+    pub in-time : FoundHit budget answer
     pub sound : Sound solid ray (2 ^ k) (hitLookedAt (2 ^ k) answer)
 
   pub record ColumnDemands (answer : ColumnAnswer) (after : List ℕ) : Type 0 where

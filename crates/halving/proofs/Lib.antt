@@ -1,5 +1,7 @@
 pub mod Halving
 pub mod FirstHit
 pub mod SameOrder
+pub mod Cost
+pub mod Worst
 pub mod Handed
 pub mod Span

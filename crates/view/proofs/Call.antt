@@ -26,7 +26,7 @@ use Rattle.halving.specs.FirstHit.{hitLookedAt}
 use Rattle.cast.specs.Ticks.{exponent, rayState}
 use Rattle.cast.specs.Questions.{endsDiffer, hitQuestions}
 use Rattle.cast.specs.Calls.{rayHit, hitAfter, firstHit}
-use Rattle.cast.specs.Demands.{Sound, AloneHit, CountedHit, SameOrder}
+use Rattle.cast.specs.Demands.{Sound, AloneHit, HitAt, CountedHit, SameOrder, PromptHit, FoundHit}
 use Rattle.halving.proofs.FirstHit.{Found}
 use Rattle.cast.proofs.Demands.{hit-valid, no-ticks, ray-found, hit-by, hit-within}
 use Rattle.view.specs.Ray.{whole, endWhole, rayWhole, stepsRay}
@@ -138,10 +138,12 @@ module _ (file : List ℕ) (ray : ViewRay) where
       pub alone : AloneHit (solidOf file) steps (2 ^ k) a
       pub counted : CountedView file ray k budget (viewOf (2 ^ k) a)
       pub order : SameOrder (solidOf file) steps k budget a
+      pub prompt : PromptHit k budget a
+      pub in-time : FoundHit (solidOf file) steps k budget a
       pub sound : Sound (solidOf file) steps (2 ^ k) (hitLookedAt (2 ^ k) a)
 
     ticks-demands : DemandsMet (viewerTicks k file ray budget)
-    unfolding viewerTicks hitAfter AloneHit CountedView SameOrder viewOf hitLookedAt
+    unfolding viewerTicks hitAfter AloneHit HitAt CountedView SameOrder PromptHit FoundHit viewOf hitLookedAt
     ticks-demands = go (firstNo (viewQuestions file ray)) refl
       where
         go : (v : Verdict) → firstNo (viewQuestions file ray) ≡ v → DemandsMet (hitAfter v (solidOf file) steps k budget)
@@ -153,9 +155,18 @@ module _ (file : List ℕ) (ray : ViewRay) where
               alone = d .alone;
               counted = counted a (ray-found (solidOf file) steps k budget valid) (d .counted);
               order = d .order;
+              prompt = d .prompt;
+              in-time = d .in-time;
               sound = d .sound;
             }
-        go (No n) e = record { alone = tt; counted = refusal e; order = tt; sound = no-ticks (solidOf file) steps (2 ^ k) }
+        go (No n) e = record {
+          alone = tt;
+          counted = refusal e;
+          order = tt;
+          prompt = tt;
+          in-time = λ h first few. tt;
+          sound = no-ticks (solidOf file) steps (2 ^ k);
+        }
 
     -- a power of two for which places are floats exactly
     pub view-demands : k ≤ 23 → ViewDemands file ray k budget (viewOf (2 ^ k) (viewerTicks k file ray budget))
@@ -170,6 +181,8 @@ module _ (file : List ℕ) (ray : ViewRay) where
           alone = rw back (d .alone);
           counted = d .counted;
           order = rw back (d .order);
+          prompt = rw back (d .prompt);
+          in-time = rw back (d .in-time);
           sound = rw back (d .sound);
         }
 

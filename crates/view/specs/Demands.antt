@@ -8,7 +8,7 @@ use Rattle.field.specs.Solid.{solidOf}
 use Rattle.halving.specs.declared.HitAnswer.{HitAnswer}
 use Rattle.halving.specs.declared.HitAnswer.the-variants as found
 use Rattle.halving.specs.FirstHit.{hitLookedAt}
-use Rattle.cast.specs.Demands.{Sound, AloneHit, CountedHit, SameOrder}
+use Rattle.cast.specs.Demands.{Sound, AloneHit, CountedHit, SameOrder, PromptHit, FoundHit}
 use Rattle.view.specs.Floats.{Equals, tickAt}
 use Rattle.view.specs.Ray.{stepsRay}
 use Rattle.view.specs.Call.{viewerTicks}
@@ -45,4 +45,6 @@ module _ (file : List ℕ) (ray : ViewRay) (k budget : ℕ) where
     pub alone : AloneHit (solidOf file) (stepsRay ray) (2 ^ k) (inTicks (2 ^ k) answer)
     pub counted : CountedView answer
     pub order : SameOrder (solidOf file) (stepsRay ray) k budget (inTicks (2 ^ k) answer)
+    pub prompt : PromptHit k budget (inTicks (2 ^ k) answer)
+    pub in-time : FoundHit (solidOf file) (stepsRay ray) k budget (inTicks (2 ^ k) answer)
     pub sound : Sound (solidOf file) (stepsRay ray) (2 ^ k) (hitLookedAt (2 ^ k) (inTicks (2 ^ k) answer))
