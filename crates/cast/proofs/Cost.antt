@@ -1,6 +1,6 @@
 -- A ray that starts in a crossing tick (document 02, P7): its first hit takes exactly 11 probes, the figure of tick 0 (`crossing-start`), and with a
 -- smaller budget it is spent there (`crossing-start-spent`). So at tick 0 the figure is met.
-use mathlib.Core.Path.{_≡_, refl, _∙_}
+use mathlib.Core.Path.{_≡_, _∙_}
 use mathlib.Core.List.{List}
 use Prim.Native.Nat.{ℕ, _^_, _≤_, _<_}
 use native.Mathlib.Omega.{arith}

@@ -34,7 +34,6 @@ use Rattle.view.specs.Call.{floatQuestions, viewQuestions, viewOf, viewe
 use Rattle.view.specs.Demands.{inTicks, CountedView, ViewDemands}
 use Rattle.view.specs.declared.ViewRay.{ViewRay}
 use Rattle.view.specs.declared.ViewAnswer.{ViewAnswer}
-use Rattle.view.specs.declared.ViewAnswer.the-variants as view
 use Rattle.view.proofs.Coordinates.{ray-in}
 use Rattle.view.proofs.Places.{in-ticks, exact-places}
 
