@@ -14,7 +14,7 @@ use Rattle.halving.specs.declared.HitAnswer.{HitAnswer}
 use Rattle.halving.specs.declared.HitAnswer.the-variants.{Refused, Hit, Clear, Spent}
 use Rattle.halving.specs.Halving.{Nested}
 use Rattle.halving.specs.FirstHit.{orElse, hit}
-use Rattle.halving.proofs.FirstHit.{hit-out, hit-finished, hit-split}
+use Rattle.halving.proofs.FirstHit.{hit-out, hit-finished, hit-split, by-search}
 
 -- ---- the ones among the k binary digits of a number below 2^k
 
@@ -67,15 +67,10 @@ module _ (state : ℕ → ℕ → ℕ) (b : ℕ) where
       then (Spent t q) (from, more) = (omega arith, omega (arith, pow-step 2 k))
 
   costs : (k i m : ℕ) → Cost k i m (hit state b k i m)
-  costs zero i m = elim (decLt m b) [ no n ↦ cost-out zero i m (omega arith) | yes lt ↦ cost-finished zero i m lt (λ e. refl) ]
-  costs (suc k) i m = elim (decLt m b) [
-    | no n ↦ cost-out (suc k) i m (omega arith)
-    | yes lt ↦ elim (ℕ-discrete (state i (2 ^ suc k)) 1) [
-      | no n ↦ cost-finished (suc k) i m lt (λ e. absurd (n e))
-      | yes e ↦ rw (hit-split state b k i m lt e)
-          (left-then k i m (hit state b k i (m + 1)) (λ n. hit state b k (i + 2 ^ k) n) (costs k i (m + 1)) (λ n. costs k (i + 2 ^ k) n))
-    ]
-  ]
+  costs =
+      by-search state b (λ k i m. Cost k i m (hit state b k i m)) cost-out cost-finished
+      (λ k i m lt e left right. rw (hit-split state b k i m lt e)
+      (left-then k i m (hit state b k i (m + 1)) (λ n. hit state b k (i + 2 ^ k) n) left right))
 
   -- ---- the ray's 2^k ticks
 

@@ -1,6 +1,6 @@
--- Laws of the first hit, over any state whose decided spans decide each of their ticks alike: a hit is the first tick that is not empty, with its own
--- state; clear means that all ticks are empty; spent means that all before the tick reached are, with exactly the budget's probes; and no answer has
--- more probes than its budget and than the full cast (`hits`).
+-- Laws of the first hit: what holds of its spans by the way that the search takes (`by-search`); and, over any state whose decided spans decide each
+-- of their ticks alike, that a hit is the first tick that is not empty, with its own state, clear means that all ticks are empty, spent that all
+-- before the tick reached are, with exactly the budget's probes, and no answer has more probes than its budget and than the full cast (`hits`).
 use Prim.Native.Nat.{ℕ, zero, suc, _+_, _^_, _≤_, _<_}
 use mathlib.Core.Path.{_≡_, refl, ap, _∙_}
 use native.Mathlib.Omega.{arith, pow-step}
@@ -31,6 +31,21 @@ module _ (state : ℕ → ℕ → ℕ) (b : ℕ) where
       → hit state b (suc k) i m ≡ orElse (hit state b k i (m + 1)) (λ n. hit state b k (i + 2 ^ k) n)
   unfolding hit
   hit-split k i m h e = rw (lt-ltb _ _ h, eq-eqb _ _ e)
+
+  -- what is so of 2^k ticks from tick i on, with m probes made before, if it is so where the budget is used up, where the span is decided or one tick
+  -- long, and where it is halved, if it is so of the halves
+  pub by-search : (P : ℕ → ℕ → ℕ → Type 0) → ((k i m : ℕ) → b ≤ m → P k i m)
+      → ((k i m : ℕ) → m < b → (state i (2 ^ k) ≡ 1 → k ≡ 0) → P k i m)
+      → ((k i m : ℕ) → m < b → state i (2 ^ suc k) ≡ 1 → P k i (m + 1) → ((n : ℕ) → P k (i + 2 ^ k) n) → P (suc k) i m)
+      → (k i m : ℕ) → P k i m
+  by-search P out ended split zero i m = elim (decLt m b) [ no n ↦ out zero i m (omega arith) | yes lt ↦ ended zero i m lt (λ e. refl) ]
+  by-search P out ended split (suc k) i m = elim (decLt m b) [
+    | no n ↦ out (suc k) i m (omega arith)
+    | yes lt ↦ elim (ℕ-discrete (state i (2 ^ suc k)) 1) [
+      | no n ↦ ended (suc k) i m lt (λ e. absurd (n e))
+      | yes e ↦ split k i m lt e (by-search P out ended split k i (m + 1)) (λ n. by-search P out ended split k (i + 2 ^ k) n)
+    ]
+  ]
 
   -- ---- what the first hit in 2^k ticks from tick i on says, with m probes made before
 
@@ -85,18 +100,15 @@ module _ (state : ℕ → ℕ → ℕ) (b : ℕ) where
   ]
 
   module _ (nested : Nested state) where
+    -- each tick of a span that is decided or one tick long is as the span is
+    same-state : (k i : ℕ) → (state i (2 ^ k) ≡ 1 → k ≡ 0) → (j : ℕ) → i ≤ j → j < i + 2 ^ k → state j 1 ≡ state i (2 ^ k)
+    same-state zero i e j from before = ap (λ (n : ℕ). state n 1) (omega arith)
+    same-state (suc k) i e j from before = nested i (2 ^ suc k) j (λ u. omega (arith, e u)) from before
+
     pub hits : (k i m : ℕ) → m ≤ b → Found k i m (hit state b k i m)
-    unfolding probeCount
-    hits zero i m h = elim (decLt m b) [
-      | no n ↦ found-out zero i m (omega arith)
-      | yes lt ↦ found-finished zero i m lt (λ e. refl) (λ j from before. ap (λ (n : ℕ). state n 1) (omega arith))
-    ]
-    hits (suc k) i m h = elim (decLt m b) [
-      | no n ↦ found-out (suc k) i m (omega arith)
-      | yes lt ↦ elim (ℕ-discrete (state i (2 ^ suc k)) 1) [
-        | no n ↦ found-finished (suc k) i m lt (λ e. absurd (n e)) (λ j from before. nested i (2 ^ suc k) j n from before)
-        | yes e ↦ rw (hit-split k i m lt e)
-            (left-then k i m (hit state b k i (m + 1)) (λ n. hit state b k (i + 2 ^ k) n) (count-split state k i e)
-            (hits k i (m + 1) (omega arith)) (λ n q. hits k (i + 2 ^ k) n q))
-      ]
-    ]
+    hits =
+        by-search (λ k i m. m ≤ b → Found k i m (hit state b k i m))
+        (λ k i m more h. found-out k i m (omega arith))
+        (λ k i m lt e h. found-finished k i m lt e (same-state k i e))
+        (λ k i m lt e left right h. rw (hit-split k i m lt e)
+        (left-then k i m (hit state b k i (m + 1)) (λ n. hit state b k (i + 2 ^ k) n) (count-split state k i e) (left (omega arith)) right))

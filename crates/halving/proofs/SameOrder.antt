@@ -2,7 +2,7 @@
 -- true of a span if it is of its halves. So a spent first hit is a full cast spent alike (`spent-alike`), a clear one has the full cast's probes
 -- (`clear-alike`), and the full cast looks at a hit's tick (`hit-alike`). A hit with p probes is the answer with every budget of p or more
 -- (`hit-enough`) and spent with every smaller one (`hit-needs`): p is the least budget with which the full cast looks at its tick (`hit-known`).
-use Prim.Native.Nat.{ℕ, zero, suc, _+_, _^_, _≤_, _<_}
+use Prim.Native.Nat.{ℕ, suc, _+_, _^_, _≤_, _<_}
 use mathlib.Core.Path.{_≡_, refl, ap, subst, _∙_}
 use native.Mathlib.Omega.{arith, pow-step}
 use native.Mathlib.Decide.{ℕ-discrete, decLt}
@@ -15,7 +15,7 @@ use Rattle.halving.specs.declared.HitAnswer.the-variants as first
 use Rattle.halving.specs.Halving.{andThen, walk, castLookedAt}
 use Rattle.halving.specs.FirstHit.{orElse, finished, hit}
 use Rattle.halving.proofs.Halving.{walk-out, walk-finished, walk-split, walked, looked-within}
-use Rattle.halving.proofs.FirstHit.{hit-out, hit-finished, hit-split}
+use Rattle.halving.proofs.FirstHit.{hit-out, hit-finished, hit-split, by-search}
 
 -- ---- what one answer says of another
 
@@ -67,26 +67,22 @@ module _ (state : ℕ → ℕ → ℕ) where
       | no n ↦ rw (hit-finished state b k i m lt e, walk-finished state b k i m lt e, ne-eqb _ _ n) (omega (arith, pow-pos k))
     ]
 
-    pub alike : (k i m : ℕ) → Alike (i + 2 ^ k) (hit state b k i m) (walk state b k i m)
-    alike zero i m = elim (decLt m b) [
-      | no n ↦ rw (hit-out state b zero i m (omega arith), walk-out state b zero i m (omega arith)) refl
-      | yes lt ↦ alike-finished zero i m lt (λ e. refl)
-    ]
-    alike (suc k) i m = elim (decLt m b) [
-      | no n ↦ rw (hit-out state b (suc k) i m (omega arith), walk-out state b (suc k) i m (omega arith)) refl
-      | yes lt ↦ elim (ℕ-discrete (state i (2 ^ suc k)) 1) [
-        | no n ↦ alike-finished (suc k) i m lt (λ e. absurd (n e))
-        | yes e ↦
-            let half = i + 2 ^ k in
-            let end : half + 2 ^ k ≡ i + 2 ^ suc k = omega (arith, pow-step 2 k) in
-            rw (hit-split state b k i m lt e, walk-split state b k i m lt e)
-            (left-then half (i + 2 ^ suc k) (hit state b k i (m + 1)) (walk state b k i (m + 1))
-            (λ p. hit state b k half p) (λ p. walk state b k half p)
-            (alike k i (m + 1))
-            (λ p. subst (λ (n : ℕ). Alike n (hit state b k half p) (walk state b k half p)) end (alike k half p))
-            (λ p. subst (λ (n : ℕ). half ≤ castLookedAt n (walk state b k half p)) end (from-first k half p)))
-      ]
-    ]
+    abbrev AlikeAt : ℕ → ℕ → ℕ → Type 0
+    AlikeAt k i m = Alike (i + 2 ^ k) (hit state b k i m) (walk state b k i m)
+
+    alike-split : (k i m : ℕ) → m < b → state i (2 ^ suc k) ≡ 1 → AlikeAt k i (m + 1) → ((p : ℕ) → AlikeAt k (i + 2 ^ k) p) → AlikeAt (suc k) i m
+    alike-split k i m lt e left right =
+        let half = i + 2 ^ k in
+        let end : half + 2 ^ k ≡ i + 2 ^ suc k = omega (arith, pow-step 2 k) in
+        rw (hit-split state b k i m lt e, walk-split state b k i m lt e)
+        (left-then half (i + 2 ^ suc k) (hit state b k i (m + 1)) (walk state b k i (m + 1))
+        (λ p. hit state b k half p) (λ p. walk state b k half p) left
+        (λ p. subst (λ (n : ℕ). Alike n (hit state b k half p) (walk state b k half p)) end (right p))
+        (λ p. subst (λ (n : ℕ). half ≤ castLookedAt n (walk state b k half p)) end (from-first k half p)))
+
+    alike : (k i m : ℕ) → AlikeAt k i m
+    alike =
+        by-search state b AlikeAt (λ k i m more. rw (hit-out state b k i m more, walk-out state b k i m more) refl) alike-finished alike-split
 
     module _ (k i m : ℕ) where
       by-answer : {f : HitAnswer} → hit state b k i m ≡ f → Alike (i + 2 ^ k) f (walk state b k i m)
@@ -164,22 +160,21 @@ module _ (state : ℕ → ℕ → ℕ) where
           (λ h l. let e : m ≡ c = omega arith in (i, from, hit-out state c k i m (omega arith) ∙ ap (λ (n : ℕ). first.Spent i n) e)),
         )
 
-    pub told : (k i m : ℕ) → Told c i (i + 2 ^ k) m (hit state b k i m) (hit state c k i m)
-    told zero i m = elim (decLt m b) [ no n ↦ told-out zero i m (omega arith) | yes lt ↦ told-finished zero i m lt (λ e. refl) ]
-    told (suc k) i m = elim (decLt m b) [
-      | no n ↦ told-out (suc k) i m (omega arith)
-      | yes lt ↦ elim (ℕ-discrete (state i (2 ^ suc k)) 1) [
-        | no n ↦ told-finished (suc k) i m lt (λ e. absurd (n e))
-        | yes e ↦
-            let half = i + 2 ^ k in
-            let end : half + 2 ^ k ≡ i + 2 ^ suc k = omega (arith, pow-step 2 k) in
-            rw (hit-split state b k i m lt e)
-            (told-halves i m (hit state c k i (m + 1)) (hit state c (suc k) i m) (λ p. hit state c k half p)
-            (λ h. hit-out state c (suc k) i m h) (λ h. hit-split state c k i m h e)
-            half (i + 2 ^ suc k) (hit state b k i (m + 1)) (λ p. hit state b k half p)
-            (told k i (m + 1)) (λ p. subst (λ (n : ℕ). Told c half n p (hit state b k half p) (hit state c k half p)) end (told k half p)))
-      ]
-    ]
+    abbrev ToldAt : ℕ → ℕ → ℕ → Type 0
+    ToldAt k i m = Told c i (i + 2 ^ k) m (hit state b k i m) (hit state c k i m)
+
+    told-split : (k i m : ℕ) → m < b → state i (2 ^ suc k) ≡ 1 → ToldAt k i (m + 1) → ((p : ℕ) → ToldAt k (i + 2 ^ k) p) → ToldAt (suc k) i m
+    told-split k i m lt e left right =
+        let half = i + 2 ^ k in
+        let end : half + 2 ^ k ≡ i + 2 ^ suc k = omega (arith, pow-step 2 k) in
+        rw (hit-split state b k i m lt e)
+        (told-halves i m (hit state c k i (m + 1)) (hit state c (suc k) i m) (λ p. hit state c k half p)
+        (λ h. hit-out state c (suc k) i m h) (λ h. hit-split state c k i m h e)
+        half (i + 2 ^ suc k) (hit state b k i (m + 1)) (λ p. hit state b k half p)
+        left (λ p. subst (λ (n : ℕ). Told c half n p (hit state b k half p) (hit state c k half p)) end (right p)))
+
+    told : (k i m : ℕ) → ToldAt k i m
+    told = by-search state b ToldAt told-out told-finished told-split
 
   -- ---- a hit
 
