@@ -32,8 +32,8 @@ module _ (state : ℕ → ℕ → ℕ) (b : ℕ) where
   unfolding hit
   hit-split k i m h e = rw (lt-ltb _ _ h, eq-eqb _ _ e)
 
-  -- what is so of 2^k ticks from tick i on, with m probes made before, if it is so where the budget is used up, where the span is decided or one tick
-  -- long, and where it is halved, if it is so of the halves
+  -- what is so of 2^k ticks from tick i on, with m probes made before: if it is so where the budget is used up, where the span is decided or one
+  -- tick long, and where it is halved, provided that it is so of the halves
   pub by-search : (P : ℕ → ℕ → ℕ → Type 0) → ((k i m : ℕ) → b ≤ m → P k i m)
       → ((k i m : ℕ) → m < b → (state i (2 ^ k) ≡ 1 → k ≡ 0) → P k i m)
       → ((k i m : ℕ) → m < b → state i (2 ^ suc k) ≡ 1 → P k i (m + 1) → ((n : ℕ) → P k (i + 2 ^ k) n) → P (suc k) i m)
