@@ -8,28 +8,31 @@ use crate::requests::operators;
 use reference::cast::{judge_tick, FirstHit, Mark};
 use reference::field::Ray;
 use reference::generate::{self, SplitMix64, Style, STYLES};
-use reference::part::FileBuilder;
+use reference::part::{FileBuilder, Part};
 use std::collections::BTreeMap;
 
-/// A part of the kind numbered, and a ray that starts near a point's surface in a tick
-/// that is crossing by the fractions, and ends where one of the style does.
+/// A ray through the part that starts near a point's surface, in a tick that is
+/// crossing by the fractions, and ends where one of the style does; if it is drawn so.
+fn try_drawn(random: &mut SplitMix64, part: Part, style: Style) -> Option<Scene> {
+    let a = generate::ray(random, &part, Style::OneStep).a;
+    let b = generate::ray(random, &part, style).b;
+    let ray = Ray { a, b };
+    let crossing = a != b && judge_tick(&part, &ray, 0) == Some(Mark::Crossing);
+    crossing.then(|| Scene {
+        file: FileBuilder::from(&part).build(),
+        part,
+        ray,
+        first: Some((0, Mark::Crossing)),
+    })
+}
+
+/// Such a ray, with a part of the kind numbered or one after it.
 pub fn drawn(random: &mut SplitMix64, kind: usize, style: Style) -> Scene {
-    loop {
+    let mut drawn = (kind..).filter_map(|kind| {
         let part = part(random, kind);
-        let a = generate::ray(random, &part, Style::OneStep).a;
-        let b = generate::ray(random, &part, style).b;
-        let ray = Ray { a, b };
-        if a != b && judge_tick(&part, &ray, 0) == Some(Mark::Crossing) {
-            let file = FileBuilder::from(&part).build();
-            let first = Some((0, Mark::Crossing));
-            return Scene {
-                part,
-                file,
-                ray,
-                first,
-            };
-        }
-    }
+        try_drawn(random, part, style)
+    });
+    drawn.next().expect("a ray")
 }
 
 /// Exactly 11 probes with each budget from 11 on; spent at tick 0 with each below.
