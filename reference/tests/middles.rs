@@ -14,9 +14,9 @@ use host::{column_by, entries};
 use reference::cast::{middle_solid, Column};
 use reference::field::{Bounds, ExactField, Ray, SpanBounds};
 use reference::generate::{self, bored, cancelling, part_of_form, SplitMix64, FORMS, STYLES};
-use reference::part::{read, FileBuilder, Kind, Part};
+use reference::part::{read, FileBuilder, Part};
 use reference::quick::TickField;
-use requests::GROUPS;
+use requests::{operators, GROUPS};
 use std::array::from_fn;
 use std::collections::BTreeMap;
 use worked::{all_crossing, at_y, file_k, AXIS};
@@ -152,19 +152,6 @@ impl Seen {
             println!("{name}: {count}");
         }
     }
-}
-
-/// The operators of a part, or that it has none.
-fn operators(part: &Part) -> Vec<String> {
-    let mut kinds: Vec<String> = part
-        .nodes
-        .iter()
-        .filter(|node| node.kind != Kind::Point || part.nodes.len() == 1)
-        .map(|node| format!("{:?}", node.kind))
-        .collect();
-    kinds.sort();
-    kinds.dedup();
-    kinds
 }
 
 /// Columns on rays of each style in turn through `count` parts.

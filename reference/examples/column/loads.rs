@@ -9,6 +9,8 @@ use std::path::Path;
 
 /// A column of a file's part on a ray, or its marks: 65,536 + probes, or samples.
 pub type RayCall = fn(&[u8], &Ray, &mut [u8]) -> u32;
+/// A first hit of a file's part on a ray with a budget.
+pub type HitCall = fn(&[u8], &Ray, u32) -> u64;
 /// A call on a file as a whole.
 pub type FileCall = fn(&[u8]);
 
@@ -57,6 +59,13 @@ impl Load {
     pub fn fill_all<const BYTES: usize>(&self, call: RayCall) -> u32 {
         let probes = |ray| self.fill::<BYTES>(ray, call).0;
         self.rays.iter().map(probes).sum()
+    }
+
+    /// The number of a first hit on a ray, with a budget that is always enough.
+    pub fn first_hit(&self, ray: &Ray, call: HitCall) -> u64 {
+        let number = call(black_box(&self.file), ray, 2047);
+        assert!(number >> 32 > 0, "{} {ray:?}", self.name);
+        number
     }
 
     /// The records of the file.

@@ -1,14 +1,16 @@
 //! What a column costs: the archive's, plain Rust's and that of samples; what
-//! the archive's two full casts cost, halving and marching; and what the archive
-//! takes to check, read and write a file. What marks and bits show of a strut
-//! thinner than a tick, and how thick walls come out. Or, by the shared libraries
-//! of an earlier archive and of this one, what a column cost before and after.
-//! Prints tables in Markdown; docs/BENCHMARKS.md explains them.
+//! the archive's two full casts cost, halving and marching; how many probes its
+//! first hits make, by the hit's tick; and what it takes to check, read and write
+//! a file. What marks and bits show of a strut thinner than a tick, and how thick
+//! walls come out. Or, by the shared libraries of an earlier archive and of this
+//! one, what a column cost before and after. Prints tables in Markdown;
+//! docs/BENCHMARKS.md explains them.
 
 mod casts;
 #[path = "../../tests/common/entries.rs"]
 mod entries;
 mod files;
+mod hits;
 mod libraries;
 mod loads;
 mod measure;
@@ -302,6 +304,7 @@ fn print_tables() {
     print_struts();
     walls::print();
     casts::print();
+    hits::print();
     print_files();
 }
 

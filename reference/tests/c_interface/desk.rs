@@ -313,7 +313,10 @@ fn usage_and_files() {
         (&["write", "k", "folder"], "desk: cannot write folder\n"),
         (&["read", "none"], "desk: cannot read none\n"),
         (&["write", "k", "k"], "desk: cannot write over k\n"),
-        (&["read", "k.part", "k.part"], "desk: cannot write over k.part\n"),
+        (
+            &["read", "k.part", "k.part"],
+            "desk: cannot write over k.part\n",
+        ),
     ];
     for (words, said) in cases {
         let output = desk.run(words);

@@ -58,6 +58,20 @@ pub fn place(random: &mut SplitMix64, part: &Part) -> [i32; 3] {
     at
 }
 
+/// The operators of a part, or that it has none.
+#[allow(dead_code)]
+pub fn operators(part: &Part) -> Vec<String> {
+    let mut kinds: Vec<String> = part
+        .nodes
+        .iter()
+        .filter(|node| node.kind != Kind::Point || part.nodes.len() == 1)
+        .map(|node| format!("{:?}", node.kind))
+        .collect();
+    kinds.sort();
+    kinds.dedup();
+    kinds
+}
+
 /// The budget of a kind, 0 to 6, for a call that needs `count` probes.
 #[allow(dead_code)]
 pub fn budget(kind: usize, count: u32) -> u32 {
