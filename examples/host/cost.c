@@ -1,10 +1,10 @@
 /* A host: cost PICTURE.png PART... makes first hits and draws how many probes a hit
- * takes by its tick, below the line 2 h + 11, which none passes. Rightwards go the
+ * takes by its tick h, below the line 2 h + 11, which none passes. Rightwards go the
  * ticks, on the left 0 to 15, large, on the right all; upwards the probes, twice as
- * many from one line of the grid to the next. The rays are those of the parts'
- * depth images, begun outside and within, and those of a part that is hard to tell
- * empty. All arithmetic is in whole numbers, so the picture is the same on every
- * machine. Lengths are in steps of 1/64 mm. */
+ * many from one line of the grid to the next. The rays are some of the parts' depth
+ * images, also begun or ended early, and those of a part that is hard to tell empty.
+ * All arithmetic is in whole numbers, so the picture is the same on every machine.
+ * Lengths are in steps of 1/64 mm. */
 #include "fenalukki.h"
 #include "host.h"
 #include "png.h"
@@ -107,8 +107,8 @@ static uint64_t hard_hit(int32_t x, int32_t r)
                                FENALUKKI_ENOUGH);
 }
 
-/* At each step of the ray three beads: the solid of one of radius r begins r/128 of a
- * step after its field does, and a tick is a third of a step. */
+/* At each step of the ray three beads: the solid of one of radius r begins about r/128
+ * of a step after its field does, and a tick is about a third of a step. */
 static int count_hard(struct costs *costs)
 {
     int32_t x;
