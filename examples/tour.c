@@ -1,7 +1,8 @@
 /* A tour of fenalukki.h: writes a part of three points, makes each of the
- * fifteen calls, has the points joined by other operators, and each refusal
- * number answered once. What it prints is in tour.out. Lengths are in steps of
- * 1/64 mm but for the viewer's, which are in millimetres. */
+ * fifteen calls, plans a viewer's budgets, has the points joined by other
+ * operators, and each refusal number answered once. What it prints is in
+ * tour.out. Lengths are in steps of 1/64 mm but for the viewer's, which are in
+ * millimetres. */
 #include "fenalukki.h"
 
 #include <inttypes.h>
@@ -445,7 +446,39 @@ static void show_views(const struct part *part)
     print_view(part, a, b);
 }
 
-/* 9. Bounds at a place, in units of 2^-32. */
+/* 9. A viewer's budgets, planned by fenalukki_hit_budget: with that of a tick, a
+ * hit there or before is never answered as spent. The part is file K, a ball about
+ * the origin, and the rays run along x, in millimetres. */
+
+static const int32_t ball[FENALUKKI_NUMBERS_PER_NODE] = {FENALUKKI_KIND_POINT, 512, 0, 0, 0, 4};
+
+static void print_budgeted(const struct part *part, float ax, float bx, uint32_t budget)
+{
+    printf("(%.9g, 0, 0) to (%.9g, 0, 0), budget %lu: ", (double)ax, (double)bx,
+           (unsigned long)budget);
+    print_hit(fenalukki_viewer_first_hit(part->bytes, part->length, ax, 0, 0, bx, 0, 0, budget));
+}
+
+/* The first ray begins in a crossing tick, where a probe less than planned is too
+ * little. The second takes much less than planned; spent, it is past the tick that
+ * was planned for. */
+static void show_budgets(void)
+{
+    static struct part k;
+    uint32_t number = fenalukki_write(ball, FENALUKKI_NUMBERS_PER_NODE, 1, k.bytes,
+                                      sizeof k.bytes, 0);
+
+    k.length = fenalukki_end(number);
+    printf("\n9. Planned budgets, on file K: %lu for tick 0, %lu to tick 99, %lu to tick 330\n",
+           (unsigned long)fenalukki_hit_budget(0), (unsigned long)fenalukki_hit_budget(99),
+           (unsigned long)fenalukki_hit_budget(330));
+    print_budgeted(&k, 5.65625f, 21.65625f, fenalukki_hit_budget(0));
+    print_budgeted(&k, 5.65625f, 21.65625f, fenalukki_hit_budget(0) - 1);
+    print_budgeted(&k, -16, 16, fenalukki_hit_budget(330));
+    print_budgeted(&k, -16, 16, fenalukki_hit_budget(0));
+}
+
+/* 10. Bounds at a place, in units of 2^-32. */
 
 static void print_bounds(const struct part *part, int32_t x, int32_t y, int32_t z)
 {
@@ -465,14 +498,14 @@ static void print_bounds(const struct part *part, int32_t x, int32_t y, int32_t 
 
 static void show_bounds(const struct part *part)
 {
-    printf("\n9. Bounds at a place, in units of 2^-32; solid from the field %d on\n", ISO);
+    printf("\n10. Bounds at a place, in units of 2^-32; solid from the field %d on\n", ISO);
     print_bounds(part, 0, -256, 0);
     print_bounds(part, 0, 400, 0);
     print_bounds(part, 0, 20, 1);
     print_bounds(part, 1000, 1000, 1000);
 }
 
-/* 10. Cut and lesser, with the ball moved into the bar. The bar is the earlier
+/* 11. Cut and lesser, with the ball moved into the bar. The bar is the earlier
  * operand, so the cut is the bar without the ball. */
 
 enum { FIRST_LINE = 15, AFTER_LINE = 25 }; /* y from 64 down to -576 */
@@ -494,12 +527,12 @@ static void print_overlap(int kind)
 
 static void show_overlaps(void)
 {
-    printf("\n10. Cut and lesser of the bar and the ball, moved to y 0\n");
+    printf("\n11. Cut and lesser of the bar and the ball, moved to y 0\n");
     print_overlap(FENALUKKI_KIND_CUT);
     print_overlap(FENALUKKI_KIND_LESSER);
 }
 
-/* 11. Counted calls: three totals that each call adds to. */
+/* 12. Counted calls: three totals that each call adds to. */
 
 static void print_totals(const char *after, const uint64_t totals[FENALUKKI_TOTALS])
 {
@@ -515,7 +548,7 @@ static void show_totals(const struct part *part)
     uint8_t marks[FENALUKKI_MARKS_BYTES], bits[FENALUKKI_COLUMN_BYTES];
     uint64_t totals[FENALUKKI_TOTALS] = {0, 0, 0};
 
-    printf("\n11. Running totals\n");
+    printf("\n12. Running totals\n");
     fenalukki_full_cast_counted(file, length, 0, 1024, 0, 0, -1024, 0, 30, marks, sizeof marks,
                                 totals);
     print_totals("a full cast with budget 30", totals);
@@ -537,7 +570,7 @@ static void show_totals(const struct part *part)
     print_totals("a column, with probes near the ceiling", totals);
 }
 
-/* 12. A saved record, read into the totals: its probes are at the ceiling of 32
+/* 13. A saved record, read into the totals: its probes are at the ceiling of 32
  * bits, and the column after it counts on from there. */
 
 static const uint8_t saved[FENALUKKI_SAVED_BYTES] = {
@@ -559,7 +592,7 @@ static void show_restore(const struct part *part)
     uint8_t bits[FENALUKKI_COLUMN_BYTES];
     uint64_t totals[FENALUKKI_TOTALS] = {0, 0, 0};
 
-    printf("\n12. A saved record\n");
+    printf("\n13. A saved record\n");
     print_restore(FENALUKKI_SAVED_BYTES, totals);
     fenalukki_column_counted(part->bytes, part->length, 0, 1024, 0, 0, -1024, 0, bits,
                              sizeof bits, totals);
@@ -567,7 +600,7 @@ static void show_restore(const struct part *part)
     print_restore(FENALUKKI_SAVED_BYTES - 1, totals);
 }
 
-/* 13. Every refusal. */
+/* 14. Every refusal. */
 
 /* 1 to 4 by a file that has one fault. */
 static uint64_t refused_file(struct part part, int number)
@@ -685,7 +718,7 @@ static void show_refusals(const struct part *part)
 {
     int number;
 
-    printf("\n13. Refusals\n");
+    printf("\n14. Refusals\n");
     for (number = 1; number <= FENALUKKI_REFUSALS; number++) {
         uint64_t answer = refused_call(part, number);
 
@@ -708,6 +741,7 @@ int main(void)
     show_marches(&part);
     show_hits(&part);
     show_views(&part);
+    show_budgets();
     show_bounds(&part);
     show_overlaps();
     show_totals(&part);

@@ -41,8 +41,8 @@
  *   fenalukki_restore_totals             totals from a saved record
  *
  * They are compiled from code that is proved. What is inline at the end of this
- * header (readers of the numbers, texts, rounding) is C: it is tested, and is
- * no part of what is proved.
+ * header (readers of the numbers, a budget, texts, rounding) is C: it is tested,
+ * and is no part of what is proved.
  *
  * The part file
  *
@@ -77,7 +77,8 @@
  *                       viewer's calls, in millimetres, any floats
  *   x, y, z             a place in steps, any numbers
  *   budget              the most probes that the call may make; 2,047 is
- *                       always enough, in a marching cast 2,052
+ *                       always enough, in a marching cast 2,052, and for a
+ *                       first hit at tick h 2 h + 11
  *   marks, marks_len    the buffer of a full or a marching cast, 1,024 bytes
  *                       or more
  *   bits, bits_len      the buffer of a column, 128 bytes or more
@@ -164,16 +165,16 @@
  *
  *   A probe is one working out of the field's bounds over a stretch of ticks.
  *   The time of a cast goes by its probes times the part's records. The most
- *   are 2,047 probes, in a marching cast 2,052, of 511 records. A column also
- *   works out the bounds at the middle of each crossing tick, at most 1,024
- *   times; each is as much work as a probe and is not counted as one. On a part
- *   of 256 points, 3 sums and 252 cuts that leave every tick undecided, a column
- *   takes 105 million instructions by callgrind, which is 67 for a record and
- *   each of the 3,071 times that the bounds are worked out; a full or a marching
- *   cast takes 70 million. No call tried took more. With 255 sums a column takes
- *   100 million. A smaller budget makes fewer probes and so bounds a call's
- *   time; a column has no budget. docs/BENCHMARKS.md has the figures of other
- *   parts.
+ *   are 2,047 probes, in a marching cast 2,052, of 511 records; a first hit at
+ *   tick h takes at most 2 h + 11 probes. A column also works out the bounds at
+ *   the middle of each crossing tick, at most 1,024 times; each is as much work
+ *   as a probe and is not counted as one. On a part of 256 points, 3 sums and 252
+ *   cuts that leave every tick undecided, a column takes 105 million instructions
+ *   by callgrind, which is 67 for a record and each of the 3,071 times that the
+ *   bounds are worked out; a full or a marching cast takes 70 million. No call
+ *   tried took more. With 255 sums a column takes 100 million. A smaller budget
+ *   makes fewer probes and so bounds a call's time; a column has no budget.
+ *   docs/BENCHMARKS.md has the figures of other parts.
  *
  * Coming from version 2
  *
@@ -212,9 +213,9 @@
 /* The version of this header and of the archive beside it. The major number
  * changes where a host has to change, the minor where names are added. */
 #define FENALUKKI_VERSION_MAJOR 3
-#define FENALUKKI_VERSION_MINOR 0
+#define FENALUKKI_VERSION_MINOR 1
 #define FENALUKKI_VERSION_PATCH 0
-#define FENALUKKI_VERSION "3.0.0"
+#define FENALUKKI_VERSION "3.1.0"
 #define FENALUKKI_VERSION_NUMBER \
     (FENALUKKI_VERSION_MAJOR * 10000 + FENALUKKI_VERSION_MINOR * 100 + FENALUKKI_VERSION_PATCH)
 
@@ -449,6 +450,21 @@ uint32_t fenalukki_marching_cast(const uint8_t *file, size_t file_len,
  *   k = 3   clear: every tick is empty; tick is 0
  *   k = 4   spent: tick is the one reached, every tick before it is empty, and
  *           probes is the budget
+ *
+ * How long it can take: a hit at tick h takes at most 2 h + 11 probes. With a
+ * budget of 2 h + 11 or more, ticks 0 to h are looked at, unless a hit comes
+ * before: if the first tick that is not empty is h or an earlier one, the answer
+ * is that hit with its mark, never spent. A call that is spent all the same has
+ * reached a tick after h, so that 0 to h are empty.
+ *
+ * To be sure of every hit in the first 100 ticks, which are 0 to 99, a budget of
+ * 2 * 99 + 11 = 209 is enough. fenalukki_hit_budget, below, works the figure out;
+ * from tick 1,018 on it would be 2,047 or more, and 2,047 is always enough.
+ *
+ * A ray whose tick 0 is crossing takes exactly 11 probes, and with a budget of 0
+ * to 10 it is spent at tick 0: nothing less than 11 would do in the figure. It is
+ * a figure of hits. A clear ray may take up to 2,047 probes, and is spent with a
+ * budget of fewer than it takes.
  */
 uint64_t fenalukki_first_hit(const uint8_t *file, size_t file_len,
                              int32_t ax, int32_t ay, int32_t az,
@@ -512,6 +528,9 @@ uint32_t fenalukki_column(const uint8_t *file, size_t file_len,
  *
  * The entry of a hit, or the place that a spent call reached, is tick / 1024 of
  * the way from A to B exactly; fenalukki_place gives it as a float.
+ *
+ * How long it can take is said at fenalukki_first_hit: a hit at tick h takes at
+ * most 2 h + 11 probes, and with that budget or more it is never spent.
  */
 uint64_t fenalukki_viewer_first_hit(const uint8_t *file, size_t file_len,
                                     float ax, float ay, float az,
@@ -674,6 +693,14 @@ static inline int fenalukki_mark(uint64_t number)
 static inline float fenalukki_place(uint64_t number)
 {
     return (float)fenalukki_tick(number) / FENALUKKI_TICKS;
+}
+
+/* Before a first hit, the viewer's too: the most probes that a hit at the tick, 0
+ * to 1,023, takes, and so a budget with which a hit there or before is never
+ * answered as spent: 2 tick + 11, or 2,047 where that is less. */
+static inline uint32_t fenalukki_hit_budget(int tick)
+{
+    return tick < (FENALUKKI_ENOUGH - 11) / 2 ? 2 * (uint32_t)tick + 11 : FENALUKKI_ENOUGH;
 }
 
 /* Of a check or a read: the file's node count; 0 where it was refused. */

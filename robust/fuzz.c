@@ -2,8 +2,8 @@
  * The fifteen C entries under libFuzzer, each compared with the reference: the
  * number, every byte of the buffer, of the bounds, of the nodes' numbers and of
  * the totals and around them, and the file, the numbers and the saved record
- * handed over. What is lent lies against inaccessible pages. robust/fuzz builds
- * and runs it.
+ * handed over. A first hit's number is also held to the figure of its probes.
+ * What is lent lies against inaccessible pages. robust/fuzz builds and runs it.
  *
  * An input is the ray lister's: A and B as six signed 16-bit numbers, the
  * budget unsigned 16 bits, then the file, little-endian. With fewer than 14
@@ -22,6 +22,7 @@
  * to input.
  */
 #include "fenalukki.h"
+#include "figure.h"
 #include "lent.h"
 
 #include <stdio.h>
@@ -178,15 +179,27 @@ static void compare_column(const struct input *in, size_t room)
     expect_counted("column counted", right);
 }
 
+/* Compares the number of a first hit, after it was held to the figure. */
+static void expect_hit(const char *call, const struct input *in, uint64_t found, uint64_t right)
+{
+    const char *what = broken_figure(found, in->budget);
+
+    if (what != NULL) {
+        fprintf(stderr, "%s: %s\n", call, what);
+        abort();
+    }
+    expect_same(call, found == right ? NULL : "the number");
+}
+
 static void compare_first_hit(const struct input *in)
 {
     const int32_t *c = in->ray;
     uint64_t right = reference_first_hit(in->original, in->length, RAY, in->budget);
     uint64_t found = fenalukki_first_hit(in->lent, in->length, RAY, in->budget);
 
-    expect_same("first hit", found == right ? NULL : "the number");
+    expect_hit("first hit", in, found, right);
     found = fenalukki_first_hit_counted(in->lent, in->length, RAY, in->budget, lend_totals());
-    expect_same("first hit counted", found == right ? NULL : "the number");
+    expect_hit("first hit counted", in, found, right);
     expect_counted("first hit counted", right);
 }
 
@@ -195,10 +208,10 @@ static void compare_viewer(const struct input *in, const float *c)
     uint64_t right = reference_viewer_first_hit(in->original, in->length, RAY, in->budget);
     uint64_t found = fenalukki_viewer_first_hit(in->lent, in->length, RAY, in->budget);
 
-    expect_same("viewer's first hit", found == right ? NULL : "the number");
+    expect_hit("viewer's first hit", in, found, right);
     found = fenalukki_viewer_first_hit_counted(in->lent, in->length, RAY, in->budget,
                                                lend_totals());
-    expect_same("viewer's first hit counted", found == right ? NULL : "the number");
+    expect_hit("viewer's first hit counted", in, found, right);
     expect_counted("viewer's first hit counted", right);
 }
 

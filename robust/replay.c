@@ -2,7 +2,8 @@
  * A host that makes the requests of a stream and compares each answer with the
  * reference's: the number, every byte of the buffer, of the two bounds or of the
  * nodes' numbers and around it, the totals and what lies around them, and the
- * file, the numbers or the saved record that the call is handed.
+ * file, the numbers or the saved record that the call is handed. A first hit's
+ * number is also held to the figure of its probes.
  * reference/examples/requests makes the stream and describes it.
  *
  *     replay pages|heap < STREAM
@@ -15,6 +16,7 @@
  */
 #define _DEFAULT_SOURCE
 #include "fenalukki.h"
+#include "figure.h"
 #include "lent.h"
 
 #include <signal.h>
@@ -268,6 +270,17 @@ static int differs(const struct request *r, const char *where, const char *what)
     return what != NULL;
 }
 
+/* Holds the number of a first hit to the figure. */
+static int breaks_figure(const struct request *r, uint64_t number)
+{
+    int is_hit = calls[r->call].kinds == &hit_kinds;
+    const char *what = is_hit ? broken_figure(number, r->limit) : NULL;
+
+    if (what != NULL)
+        printf("request %lu, %s: %s\n", requests, calls[r->call].name, what);
+    return what != NULL;
+}
+
 /* Makes the request and compares; answers whether anything differs. */
 static int replay(const struct request *r, struct lent *handed, struct lent *buffer,
                   struct lent *totals)
@@ -285,6 +298,7 @@ static int replay(const struct request *r, struct lent *handed, struct lent *buf
     found = differs(r, calls[r->call].handed, take_back(handed, r->handed, r->handed_len));
     found |= differs(r, "the buffer", take_back_from(buffer, r->place, r->expected, r->written));
     found |= differs(r, "the totals", take_back(totals, r->after, sizeof r->after));
+    found |= breaks_figure(r, number);
     if (number == r->number)
         return found;
     printf("request %lu, %s: answered %llu, expected %llu\n", requests, calls[r->call].name,

@@ -294,6 +294,24 @@ static uint64_t misjudged_ray(ENDS, uint64_t number)
     return number;
 }
 
+/* A hit's number with a probe more, where it has as many as the figure of its tick. */
+static uint64_t beyond_figure(uint64_t number)
+{
+    uint64_t kind = number >> 32, figure = 2 * (number >> 16 & 0xffff) + 11;
+
+    return (kind == 1 || kind == 2) && (number & 0xffff) == figure ? number + 1 : number;
+}
+
+/* A hit as spent at its tick, where the budget is the figure of that tick. */
+static uint64_t spent_at_figure(uint64_t number, uint32_t budget)
+{
+    uint64_t kind = number >> 32, tick = number >> 16 & 0xffff;
+
+    if ((kind != 1 && kind != 2) || budget != 2 * tick + 11)
+        return number;
+    return UINT64_C(4) << 32 | tick << 16 | budget;
+}
+
 /* A viewer's number that is wrong. */
 static uint64_t misviewed(FLOATS, uint64_t number)
 {
@@ -340,6 +358,10 @@ uint64_t __wrap_fenalukki_first_hit(FILE_BYTES, ENDS, uint32_t budget)
         number += 65536;
     if (wrong("budget-passed") && number >> 32 == 4)
         number = __real_fenalukki_first_hit(file, file_len, RAY, budget + 1);
+    if (wrong("hit-beyond-figure"))
+        number = beyond_figure(number);
+    if (wrong("spent-at-figure"))
+        number = spent_at_figure(number, budget);
     return misjudged_ray(RAY, number);
 }
 
@@ -443,6 +465,10 @@ uint64_t __wrap_fenalukki_viewer_first_hit(FILE_BYTES, FLOATS, uint32_t budget)
     uint64_t number = __real_fenalukki_viewer_first_hit(file, told_file(file_len), RAY, budget);
 
     touch_file(file, file_len);
+    if (wrong("viewer-hit-beyond-figure"))
+        number = beyond_figure(number);
+    if (wrong("viewer-spent-at-figure"))
+        number = spent_at_figure(number, budget);
     return misviewed(RAY, number);
 }
 
@@ -472,6 +498,10 @@ uint64_t __wrap_fenalukki_first_hit_counted(FILE_BYTES, ENDS, uint32_t budget,
     touch_totals(number, casts, totals);
     if (wrong("counted-next-tick") && number >> 32 == 1)
         number += 65536;
+    if (wrong("counted-hit-beyond-figure"))
+        number = beyond_figure(number);
+    if (wrong("counted-spent-at-figure"))
+        number = spent_at_figure(number, budget);
     return number;
 }
 
@@ -504,6 +534,10 @@ uint64_t __wrap_fenalukki_viewer_first_hit_counted(FILE_BYTES, FLOATS, uint32_t 
     touch_totals(number, casts, totals);
     if (wrong("counted-clear-as-spent") && number >> 32 == 3)
         number += UINT64_C(1) << 32;
+    if (wrong("counted-viewer-hit-beyond-figure"))
+        number = beyond_figure(number);
+    if (wrong("counted-viewer-spent-at-figure"))
+        number = spent_at_figure(number, budget);
     return number;
 }
 

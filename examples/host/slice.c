@@ -5,6 +5,7 @@
  * arithmetic is in whole numbers, so the pictures are the same on every machine.
  * Lengths are in steps of 1/64 mm, coordinates -2,047 to 2,047. */
 #include "fenalukki.h"
+#include "host.h"
 #include "png.h"
 
 #include <stdio.h>
@@ -14,26 +15,6 @@
 /* An answer below this is a refusal number. */
 enum { FIRST_ANSWER = 65536 };
 enum { WHITE = 255, BLACK = 0 };
-
-struct part {
-    uint8_t bytes[65537]; /* one more than a part file has, so a longer one is refused */
-    size_t length;
-};
-
-static int read_part(const char *path, struct part *part)
-{
-    FILE *file = fopen(path, "rb");
-    int failed = 1;
-
-    if (file != NULL) {
-        part->length = fread(part->bytes, 1, sizeof part->bytes, file);
-        failed = ferror(file);
-        fclose(file);
-    }
-    if (failed)
-        fprintf(stderr, "slice: cannot read %s\n", path);
-    return !failed;
-}
 
 /* In grey, unless there is a palette. */
 static int write_picture(const char *path, uint32_t width, uint32_t height, int bits,
@@ -402,44 +383,16 @@ static int write_ticks(const struct part *part, const struct plane *plane,
     return 1;
 }
 
-/* The depth image: the first hits of parallel rays, seen from above and from
- * one side. The nearest hit is white, the farthest dark grey, clear black. */
+/* The depth image: the first hits of its rays. The nearest hit is white, the
+ * farthest dark grey, clear black. */
 
-enum { WIDTH = 480, HEIGHT = 400, PIXEL = 5, PIXELS = WIDTH * HEIGHT };
 enum { BUDGET = 2047, ANSWER_CLEAR = 3, NO_HIT = 1024, DARK = 40 };
-
-/* The picture's axes, AXIS long and at right angles to each other. A ray begins
- * REACH * away before the picture's plane and ends as far behind it. */
-enum { AXIS = 145, REACH = 9 };
-static const int32_t right[3] = {116, 87, 0};
-static const int32_t up[3] = {-60, 80, 105};
-static const int32_t away[3] = {-63, 84, -100};
 
 struct depths {
     uint16_t ticks[PIXELS]; /* the hit's, or NO_HIT */
     uint16_t nearest, farthest;
     unsigned long probes, hits;
 };
-
-static int32_t round_quotient(int32_t number, int32_t divisor)
-{
-    return (number >= 0 ? number + divisor / 2 : number - divisor / 2) / divisor;
-}
-
-/* The ray through the middle of a pixel, moved to the nearest whole steps. */
-static void set_ray(int pixel, int32_t a[3], int32_t b[3])
-{
-    int32_t rightwards = PIXEL * (2 * (pixel % WIDTH) + 1 - WIDTH); /* half steps */
-    int32_t upwards = PIXEL * (HEIGHT - 1 - 2 * (pixel / WIDTH));
-    int i;
-
-    for (i = 0; i < 3; i++) {
-        int32_t middle = round_quotient(rightwards * right[i] + upwards * up[i], 2 * AXIS);
-
-        a[i] = middle - REACH * away[i];
-        b[i] = middle + REACH * away[i];
-    }
-}
 
 static void count_hit(struct depths *depths, uint16_t tick)
 {
@@ -460,7 +413,7 @@ static int cast_depths(const struct part *part, struct depths *depths)
         int32_t a[3], b[3];
         uint64_t answer;
 
-        set_ray(i, a, b);
+        set_ray(i, 0, PIECES, a, b);
         answer = fenalukki_first_hit(part->bytes, part->length, a[0], a[1], a[2],
                                      b[0], b[1], b[2], BUDGET);
         if (answer < FIRST_ANSWER) {
@@ -558,7 +511,7 @@ int main(int argc, char **argv)
 
     if (argc != 3 && !((argc == 5 || marches || zooms) && read_plane(argv + 3, &plane)))
         written = print_usage();
-    else if (!read_part(argv[1], &part))
+    else if (!read_part("slice", argv[1], &part))
         written = 0;
     else if (marches)
         written = write_march(&part, &plane, argv[2]);

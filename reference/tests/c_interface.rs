@@ -543,6 +543,29 @@ fn ticks_reached_and_bits() {
     }
 }
 
+/// The budget for a hit at each tick, and the figures that the header's words give.
+#[test]
+fn budgets_for_hits() {
+    let budget = |tick: u32| (2 * tick + 11).min(2047);
+    let ticks = [0, 1, 99, 1017, 1018, 1023];
+    assert_eq!(ticks.map(budget), [11, 13, 209, 2045, 2047, 2047]);
+    let input: String = (0..1024).map(|tick| format!("h {tick:x}\n")).collect();
+    let budgets = (0..1024).map(|tick| format!("{}\n", budget(tick)));
+    let budgets: String = budgets.collect();
+    for program in readers("budgets") {
+        assert_eq!(printed(&program, &input), budgets);
+    }
+    let header = read("include/fenalukki.h");
+    for said in [
+        "a hit at tick h takes at most 2 h + 11 probes. With a\n * budget of 2 h + 11 or more,",
+        "2 * 99 + 11 = 209 is enough.",
+        "from tick 1,018 on it would be 2,047 or more,",
+        "takes exactly 11 probes, and with a budget of 0\n * to 10 it is spent at tick 0:",
+    ] {
+        assert!(header.contains(said), "{said}");
+    }
+}
+
 /// Steps and halves of steps with the doubles next to them, special doubles, and random ones.
 fn millimetres() -> Vec<f64> {
     let halves = (-4100..=4100).map(|half| f64::from(half) / 128.0);
@@ -618,6 +641,34 @@ fn the_tour() {
     }
 }
 
+/// The tour's first hits with planned budgets are the reference's.
+#[test]
+fn the_budgets_of_the_tour() {
+    let tour = read("examples/tour.out");
+    let shown = section(&tour, "\n\n9. Planned budgets", "\n\n10. ");
+    assert!(shown.contains(": 11 for tick 0, 209 to tick 99, 671 to tick 330\n"));
+    let k = FileBuilder::new(1).point(512, [0; 3], 4).build();
+    for ([from, to], budget) in [
+        ([362, 1386], 11),
+        ([362, 1386], 10),
+        ([-1024, 1024], 671),
+        ([-1024, 1024], 11),
+    ] {
+        let (a, b) = ([from, 0, 0], [to, 0, 0]);
+        let answer = match cast::first_hit(&k, &Ray { a, b }, budget) {
+            FirstHit::Hit { tick, probes, .. } => {
+                let entry = f64::from(tick) / 1024.0;
+                format!("hit, tick {tick} is crossing, entry {entry}, {probes} probes")
+            }
+            FirstHit::Spent { tick, probes } => format!("spent at tick {tick}, {probes} probes"),
+            other => panic!("{other:?}"),
+        };
+        let [from, to] = [from, to].map(|x| f64::from(x) / 64.0);
+        let line = format!("\n({from}, 0, 0) to ({to}, 0, 0), budget {budget}: {answer}");
+        assert!(shown.contains(&line), "{line}");
+    }
+}
+
 /// The three numbers of a saved record whose bytes are listed in C.
 fn saved_numbers(listed: &str) -> [u64; 3] {
     let bytes = listed.split(',').map(|byte| byte.trim().strip_prefix("0x"));
@@ -647,7 +698,7 @@ fn the_saved_record_of_the_tour() {
         "11 bytes: refused 18, the saved record is not exactly 12 bytes long",
         &format!("  the totals: {after}"),
     ];
-    let shown = section(&printed, "\n12. A saved record\n", "\n\n13. ");
+    let shown = section(&printed, "\n13. A saved record\n", "\n\n14. ");
     assert_eq!(shown, lines.join("\n"));
 }
 
@@ -664,7 +715,7 @@ fn edited_tour(name: &str, edits: &[(&str, &str)]) -> String {
     printed(&program, "")
 }
 
-/// A tour of a part that is refused reads nothing that was lent.
+/// A tour of a part that is refused reads nothing that was lent. Its section 9 is of another part.
 #[test]
 fn a_tour_of_a_refused_part() {
     let check = "if (!show_check(&part))\n        return 1;";
@@ -673,9 +724,10 @@ fn a_tour_of_a_refused_part() {
     let edits = [(end, &no_iso[..]), (check, "show_check(&part);")];
     let output = edited_tour("spoiled_tour", &edits);
     let sections: Vec<&str> = output.split("\n\n").collect();
-    assert_eq!(sections.len(), 14);
+    assert_eq!(sections.len(), 15);
     let counts = [1, 1, 1, 1, 4, 3, 4, 3, 4, 6];
-    for (section, refused) in sections[1..11].iter().zip(counts) {
+    let of_part = sections[1..9].iter().chain(&sections[10..12]);
+    for (section, refused) in of_part.zip(counts) {
         let lines = section.lines().rev().take(refused);
         let said = lines.filter(|line| line.contains("refused 5, ")).count();
         assert_eq!(said, refused, "{section}");
@@ -712,7 +764,7 @@ fn worked_cut(format: &str) -> &str {
 
 /// What the tour prints of cut, and of lesser.
 fn overlaps(tour: &str) -> [&str; 2] {
-    let both = section(tour, "\n\n10. ", "\n\n11. ");
+    let both = section(tour, "\n\n11. ", "\n\n12. ");
     let (cut, lesser) = both.split_once("\nlesser, ").expect("both");
     [cut, lesser]
 }

@@ -1,14 +1,14 @@
 //! A stream of requests with the reference's answers, for `robust/replay.c`:
 //! those at the limits of the questions, casts of the most probes, columns at the
-//! limits of the rule for their middles, then N on damaged files, drawings and
-//! saved records, and one on a whole file, drawing or record after each seven of
-//! them.
+//! limits of the rule for their middles, first hits at the figure of their probes,
+//! then N on damaged files, drawings and saved records, and one on a whole file,
+//! drawing or record after each seven of them.
 //!
 //!     cargo run --release --offline --example requests -- N SEED > STREAM
 //!
-//! How often each side of each limit occurs, each step of a total to its ceiling
-//! and each limit of a middle, is counted and printed to standard error; where one
-//! does not, the program fails.
+//! How often each side of each limit occurs, each step of a total to its ceiling,
+//! each limit of a middle and each of a first hit's figure, is counted and printed to
+//! standard error; where one does not, the program fails.
 //!
 //! Every number is little-endian. A request is 108 bytes, then the file, or the
 //! numbers that a write is given, four bytes each, or the saved record, then the
@@ -33,6 +33,7 @@
 //! first hit; 5 to 9 the same, counted; 10 check, 11 bounds, 12 write, 13 read,
 //! 14 saved record.
 
+mod costs;
 mod damaged;
 #[path = "../../tests/common/drawings.rs"]
 mod drawings;
@@ -41,6 +42,7 @@ mod drawn;
 mod expected;
 #[path = "../../tests/common/floats.rs"]
 mod floats;
+mod hits;
 mod limited;
 mod limits;
 mod longest;
@@ -54,7 +56,9 @@ mod sides;
 mod sums;
 mod write_limits;
 
+use costs::Costs;
 use drawn::drawn;
+use hits::hits;
 use longest::longest;
 use middles::middles;
 use reached::Reached;
@@ -70,6 +74,7 @@ struct Stream<W: Write> {
     sides: Sides,
     reached: Reached,
     sums: Sums,
+    costs: Costs,
     requests: u64,
 }
 
@@ -79,12 +84,25 @@ impl<W: Write> Stream<W> {
         self.sides.count(request);
         self.reached.count(request);
         self.sums.count(request);
+        self.costs.count(request);
         request.write(&mut self.to)
+    }
+
+    /// How often each of what is counted occurs, with its name.
+    fn counts(&self) -> Vec<(i64, String)> {
+        let [sides, reached] = [self.sides.counts(), self.reached.counts()];
+        [sides, reached, self.sums.counts(), self.costs.counts()].concat()
+    }
+
+    /// The same, taken together.
+    fn tables(&self) -> String {
+        let [sides, reached] = [self.sides.table(), self.reached.table()];
+        [sides, reached, self.sums.table(), self.costs.table()].join("\n")
     }
 
     /// Every request of the stream.
     fn put_all(&mut self, random: &mut SplitMix64, damaged: u64) -> io::Result<()> {
-        let first = [limits::at_limits, longest, middles].map(|made| made(random));
+        let first = [limits::at_limits, longest, middles, hits].map(|made| made(random));
         let mut first = first.iter().flatten();
         first.try_for_each(|request| self.put(request))?;
         for i in 1..=damaged {
@@ -110,16 +128,15 @@ fn main() -> io::Result<()> {
         sides: Sides::default(),
         reached: Reached::default(),
         sums: Sums::default(),
+        costs: Costs::default(),
         requests: 0,
     };
     stream.put_all(&mut SplitMix64::new(seed), damaged)?;
-    let (sides, reached, sums) = (&stream.sides, &stream.reached, &stream.sums);
-    eprint!("{}\n{}\n{}", sides.table(), reached.table(), sums.table());
-    let counts = [sides.counts(), reached.counts(), sums.counts()].concat();
-    let least = least(counts.into_iter()).map_err(io::Error::other)?;
+    eprint!("{}", stream.tables());
+    let least = least(stream.counts().into_iter()).map_err(io::Error::other)?;
     eprintln!(
-        "{} requests, {least} or more on each side of each limit, of each step of a total and at each limit of a middle, \
-         in each call that has it",
+        "{} requests, {least} or more on each side of each limit, of each step of a total, at each limit of a middle and at each \
+         of a first hit's figure, in each call that has it",
         stream.requests
     );
     Ok(())

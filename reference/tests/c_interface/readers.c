@@ -3,6 +3,7 @@
  *   n  a call's number: prints what each reader makes of it, and its text
  *   m  a tick: the tick reached of marks that are 3 from it on
  *   b  a tick: its bit, and how many bits are 1, where it alone is 1
+ *   h  a tick: the budget for a hit there
  *   r  a double's bits: those of the float that it is rounded to, and how the
  *      viewer's call refuses that float, 0 if it does not */
 #include "fenalukki.h"
@@ -75,6 +76,9 @@ int main(void)
             break;
         case 'b':
             print_bit((int)number);
+            break;
+        case 'h':
+            printf("%lu\n", (unsigned long)fenalukki_hit_budget((int)number));
             break;
         default:
             print_rounded(number);
