@@ -452,10 +452,10 @@ uint32_t fenalukki_marching_cast(const uint8_t *file, size_t file_len,
  *           probes is the budget
  *
  * How long it can take: a hit at tick h takes at most 2 h + 11 probes. With a
- * budget of 2 h + 11 or more, ticks 0 to h are looked at, unless a hit comes
- * before: if the first tick that is not empty is h or an earlier one, the answer
- * is that hit with its mark, never spent. A call that is spent all the same has
- * reached a tick after h, so that 0 to h are empty.
+ * budget of 2 h + 11 or more, ticks 0 to h are looked at, unless the call is
+ * refused or a hit comes before: if the first tick that is not empty is h or an
+ * earlier one, the answer is that hit with its mark, never spent. A call that is
+ * spent all the same has reached a tick after h, so that 0 to h are empty.
  *
  * To be sure of every hit in the first 100 ticks, which are 0 to 99, a budget of
  * 2 * 99 + 11 = 209 is enough. fenalukki_hit_budget, below, works the figure out;
@@ -695,9 +695,9 @@ static inline float fenalukki_place(uint64_t number)
     return (float)fenalukki_tick(number) / FENALUKKI_TICKS;
 }
 
-/* Before a first hit, the viewer's too: the most probes that a hit at the tick, 0
- * to 1,023, takes, and so a budget with which a hit there or before is never
- * answered as spent: 2 tick + 11, or 2,047 where that is less. */
+/* Before a first hit, the viewer's too: a hit at the tick, 0 to 1,023, takes at
+ * most so many probes, and with a budget of so many or more a hit there or before
+ * is never answered as spent: 2 tick + 11, or 2,047 where that is less. */
 static inline uint32_t fenalukki_hit_budget(int tick)
 {
     return tick < (FENALUKKI_ENOUGH - 11) / 2 ? 2 * (uint32_t)tick + 11 : FENALUKKI_ENOUGH;

@@ -2,7 +2,8 @@
  * takes by its tick h, below the line 2 h + 11, which none passes. Rightwards go the
  * ticks, on the left 0 to 15, large, on the right all; upwards the probes, twice as
  * many from one line of the grid to the next. The rays are some of the parts' depth
- * images, also begun or ended early, and those of a part that is hard to tell empty.
+ * images, also begun later or ended earlier, and those of a part that is hard to tell
+ * empty.
  * All arithmetic is in whole numbers, so the picture is the same on every machine.
  * Lengths are in steps of 1/64 mm. */
 #include "fenalukki.h"
@@ -20,7 +21,7 @@ struct costs {
     unsigned long counts[TICKS][PROBES];
 };
 
-/* The line: the most probes of a hit at a tick. */
+/* The line: what a hit at a tick takes at most. */
 static int figure(int tick)
 {
     return 2 * tick + 11;

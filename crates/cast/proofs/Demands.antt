@@ -1,7 +1,8 @@
 -- Demands 2 and 3 on the calls' definitions (`cast-demands`, `hit-demands`, `column-demands`): each looked-at tick is marked as if judged alone, the
 -- probes are counted as document 01 says, a first hit's in the full cast's order, refusals have its numbers, and at every place of every looked-at
--- tick the mark holds of the exact field, at its middle the column's bit. A refused call looks at no tick; of an accepted one the solid is valid, so
--- the laws of the halvings and of a tick judged alone apply.
+-- tick the mark holds of the exact field, at its middle the column's bit. A hit costs at most its figure, and with such a budget it is found
+-- (document 02, P7). A refused call looks at no tick; of an accepted one the solid is valid, so the laws of the halvings and of a tick judged alone
+-- apply.
 use mathlib.Core.Path.{_≡_, refl, sym, ap, _∙_}
 use mathlib.Core.List.{List, [], _∷_, _++_}
 use Prim.Native.Nat.{ℕ, _-_, _/_, _%_, _^_, _≤_, _<_}

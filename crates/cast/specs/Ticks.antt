@@ -1,4 +1,5 @@
--- The ticks of a ray: the state of a span of them, for any number T of ticks; and the number that document 01's calls cut a ray into.
+-- The ticks of a ray: the state of a span of them, for any number T of ticks; the number that document 01's calls cut a ray into; and how many
+-- probes are enough.
 use Prim.Native.Nat.{ℕ, _+_, _*_, _-_}
 use Rattle.field.specs.declared.Ray.{Ray}
 use Rattle.field.specs.Ray.{ticks}

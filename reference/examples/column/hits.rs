@@ -25,7 +25,7 @@ const ROWS: [RangeInclusive<u32>; 6] = [0..=0, 1..=15, 16..=63, 64..=255, 256..=
 /// A hit: its tick, and the probes.
 type Hit = (u32, u32);
 
-/// The most probes of a hit at tick h.
+/// What a hit at tick h costs at most.
 fn figure(h: u32) -> u32 {
     2 * h + 11
 }

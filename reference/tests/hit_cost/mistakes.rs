@@ -10,7 +10,7 @@ use reference::field::SpanBounds;
 use reference::generate::{SplitMix64, STYLES};
 use reference::quick::TickField;
 
-/// The most probes of a hit at a tick, and a budget that is enough for it.
+/// What a hit at a tick costs at most, and a budget that is enough for it.
 type Figure = fn(u32) -> u32;
 
 /// The right figure, and mistaken ones.

@@ -5,7 +5,7 @@ use reference::field::{Ray, SpanBounds};
 use reference::part::{FileBuilder, Part};
 use reference::quick::TickField;
 
-/// The most probes of a first hit found at tick h, and a budget that is enough for it.
+/// What a first hit found at tick h costs at most, and a budget that is enough for it.
 pub fn figure(h: u32) -> u32 {
     2 * h + 11
 }
