@@ -1,5 +1,5 @@
 -- Document 01's kernel is lawful: `quartic-lawful`. This is all that theorems 1 to 5 need to know of its degree.
-use mathlib.Core.Path.{_≡_, sym, ap, subst}
+use mathlib.Core.Path.{_≡_, refl, sym, ap, subst}
 use mathlib.Core.Logic.{inl, inr}
 use Prim.Native.Nat.{ℕ, _+_, _*_, _-_, _≤_}
 use native.Mathlib.Nat.{le-of-eq, mul-le-mul, mul-le-mul-right}
@@ -31,6 +31,7 @@ quartic-lawful = record {
   down = λ q. le-of-eq (ap (λ (x : ℕ). x * fixedOne) (sym (pow-two q)));
   up = λ q. le-of-eq (ap (λ (x : ℕ). x * fixedOne) (pow-two q));
   small = λ h. (mul-le-mul h h, mul-le-mul h h);
+  none = (refl, refl);
   low-rises = λ h. mul-le-mul h h;
   high-rises = λ h. mul-le-mul h h;
   slack-proper = omega arith;

@@ -13,6 +13,7 @@ pub mod Subtrees
 pub mod Overlaps
 pub mod States
 pub mod Nested
+pub mod Far
 pub mod Tolerance
 pub mod Sum
 pub mod Demanded

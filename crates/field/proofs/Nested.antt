@@ -30,7 +30,7 @@ use Rattle.field.proofs.Enclosure.{low-le-high}
 
 -- ---- the places of the inner span are places of the outer one
 
-pub widen : {t s : Span} → 1 ≤ t .ticks → Inside t s → Place t → Place s
+unfoldable pub widen : {t s : Span} → 1 ≤ t .ticks → Inside t s → Place t → Place s
 widen {t} {s} h w x = record {
   n = x .n;
   m = x .m;

@@ -1,4 +1,5 @@
 -- What the theorems ask of a kernel. Document 01's has it (`quartic-lawful`).
+use mathlib.Core.Path.{_≡_}
 use Prim.Native.Nat.{ℕ, _+_, _*_, _-_, _^_, _≤_}
 use lib.IntN.{pos}
 use lib.Signed.{_≤ℤ_}
@@ -11,6 +12,8 @@ pub record Lawful (k : Kernel) : Type 0 where
   pub up : (q : ℕ) → q ^ k .power * fixedOne ≤ k .high q * 65536 ^ k .power
   -- and at most 2³² where q is at most 65536
   pub small : {q : ℕ} → q ≤ 65536 → (k .low q ≤ 2 ^ 32) × (k .high q ≤ 2 ^ 32)
+  -- both are 0 where q is
+  pub none : (k .low 0 ≡ 0) × (k .high 0 ≡ 0)
   -- more q, no smaller a size
   pub low-rises : {q q′ : ℕ} → q ≤ q′ → k .low q ≤ k .low q′
   pub high-rises : {q q′ : ℕ} → q ≤ q′ → k .high q ≤ k .high q′

@@ -71,6 +71,10 @@ ticks i n T = record { from = i; to = i + n; ticks = T }
 abbrev pub middle : ℕ → ℕ → Span
 middle t T = record { from = 2 * t + 1; to = 2 * t + 1; ticks = 2 * T }
 
+-- the whole ray, one span
+abbrev pub wholeRay : Span
+wholeRay = record { from = 0; to = 1; ticks = 1 }
+
 -- a span that has places
 pub record Ordered (s : Span) : Type 0 where
   pub ticks-low : 1 ≤ s .ticks

@@ -1,3 +1,6 @@
 pub mod Offsets
 pub mod Lists
+pub mod Places
+pub mod Passing
+pub mod Sizes
 pub mod Loading

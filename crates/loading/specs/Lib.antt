@@ -1,3 +1,4 @@
 pub mod Ranges
 pub mod Prepared
+pub mod Written
 pub mod Loading

@@ -1,0 +1,92 @@
+-- The peak of a point on a ray is the q of the foot for each span that has the foot strictly inside (`peak-inside`), since the ray has it inside then
+-- too. It is at most 65536 (`peak-le`). What `span_bounds` makes of its tests are the two q (`far-q`, `least-is`, `greatest-is`).
+use mathlib.Core.Path.{_≡_, refl, sym, subst, _∙_}
+use mathlib.Core.Bool.{Bool, true, false, cond, _||_, true≢false}
+use Prim.Native.Nat.{ℕ, _*_, _≤_, _<_, min, max}
+use native.Mathlib.Nat.{mul-pos}
+use native.Mathlib.Omega.{arith}
+use borrow.Author.Tests.{ltb-false}
+use lib.Dec.{ltb}
+use lib.IntN.{ℤ, pos, natAbs}
+use Rattle.exact.proofs.Tests.{positive-small}
+use Rattle.field.specs.declared.Prepared.{Prepared}
+use Rattle.field.specs.declared.Span.{Span}
+use Rattle.field.specs.Ray.{wholeRay, Ordered, Inside}
+use Rattle.field.specs.Bounds.{distanceAt, footInside, footDistance, lowQ, highQ, scaledSquare, qlo, qhi}
+use Rattle.field.proofs.Quotients.{foot-positive, low-q-zero, high-q-zero, high-q-le}
+use Rattle.field.proofs.Far.{foot-widen}
+use Rattle.points.specs.declared.Reached.{Reached}
+use Rattle.points.specs.Ranges.{PreparedRanges, SpanRanges}
+use Rattle.points.specs.Peak.{footQ, peakOf, ReachedRanges}
+
+-- ---- a span of the ray
+
+pub span-ordered : {s : Span} → SpanRanges s → Ordered s
+span-ordered h = record { ticks-low = h .ticks-low; order = h .order }
+
+pub ray-ordered : Ordered wholeRay
+ray-ordered = record { ticks-low = omega arith; order = omega arith }
+
+pub span-inside : {s : Span} → SpanRanges s → Inside s wholeRay
+span-inside h = record { from = omega arith; to = omega (arith, h .within) }
+
+-- ---- the peak
+
+module _ {a : ℤ} {p : Prepared} (r : PreparedRanges a p) where
+  square-pos : 0 < natAbs (p .square)
+  square-pos = positive-small (r .square-low) (r .square-high) .0
+
+  foot-le : footInside a p wholeRay ≡ true → footQ a p ≤ 65536
+  foot-le e = high-q-le (scaledSquare p (natAbs a)) (footDistance a p) (mul-pos square-pos (foot-positive a p wholeRay e))
+
+  pub peak-le : peakOf a p ≤ 65536
+  unfolding peakOf
+  peak-le = by (footInside a p wholeRay) refl
+    where
+      by : (b : Bool) → footInside a p wholeRay ≡ b → cond b (footQ a p) 0 ≤ 65536
+      by true e = foot-le e
+      by false e = omega arith
+
+  pub peak-inside : {s : Span} → SpanRanges s → footInside a p s ≡ true → peakOf a p ≡ footQ a p
+  unfolding peakOf
+  peak-inside h e = rw (foot-widen a (r .nonneg .a-nn) p (span-ordered h) ray-ordered (span-inside h) e)
+
+-- ---- the two q of a span, by its tests
+
+module _ (a : ℤ) (p : Reached) (s : Span) (r : ReachedRanges a p) (h : SpanRanges s) where
+  abbrev q : Prepared
+  q = p .point
+
+  abbrev whole : ℕ
+  whole = scaledSquare q (s .ticks * s .ticks)
+
+  abbrev i : ℕ
+  i = distanceAt a q (s .from) (s .ticks)
+
+  abbrev j : ℕ
+  j = distanceAt a q (s .to) (s .ticks)
+
+  whole-pos : 0 < whole
+  whole-pos = mul-pos (square-pos (r .ranges)) (mul-pos (h .ticks-low) (h .ticks-low))
+
+  neither : (x y z : Bool) → (x || (y || z)) ≡ false → (x ≡ false) × (y ≡ false) × (z ≡ false)
+  neither true y z e = absurd (true≢false e)
+  neither false true z e = absurd (true≢false e)
+  neither false false z e = (refl, refl, e)
+
+  -- out of reach, both are 0
+  pub far-q : (footInside a q s || (ltb i whole || ltb j whole)) ≡ false → (qlo a q s ≡ 0) × (qhi a q s ≡ 0)
+  unfolding qlo qhi
+  far-q e =
+      let n = neither (footInside a q s) (ltb i whole) (ltb j whole) e in
+      let x = ltb-false i whole (n .1) in
+      let y = ltb-false j whole (n .2) in
+      (low-q-zero whole (max i j) (omega (arith, x)), rw (n .0) (high-q-zero whole (min i j) whole-pos (omega (arith, x, y))))
+
+  pub greatest-is : cond (footInside a q s) (natAbs (p .peak)) (highQ whole (min i j)) ≡ qhi a q s
+  unfolding qhi
+  greatest-is = by (footInside a q s) refl
+    where
+      by : (b : Bool) → footInside a q s ≡ b → cond b (natAbs (p .peak)) (highQ whole (min i j)) ≡ cond b (footQ a q) (highQ whole (min i j))
+      by true e = rw (r .peak-is) (peak-inside (r .ranges) h e)
+      by false e = refl

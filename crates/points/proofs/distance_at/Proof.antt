@@ -1,0 +1,62 @@
+-- `distance_at`: each product and sum is at most 2⁵² in size and the whole is not negative, so the machine's number is the exact one.
+use mathlib.Core.Path.{subst, ap}
+use Prim.Native.Nat.{ℕ, _+_, _^_, _≤_}
+use lib.IntN.{ℤ, pos, natAbs, _+ℤ_, _*ℤ_}
+use lib.Signed.{yes-nonNeg}
+use mir.Syntax.{w64}
+use mir.Val.{toZ}
+use borrow.Author.Needs.{needs}
+use Rattle.exact.proofs.Machine.{Holds, back, param, lit, read, fit, from-u, to-u, _⊞_, _⊠_}
+use Rattle.exact.proofs.Ring.{_⊕_, _⊗_, #, _≔_, ring}
+use Rattle.exact.specs.Distance.{dist}
+use Rattle.field.specs.declared.Prepared.{Prepared}
+use Rattle.field.specs.Bounds.{distanceAt}
+use Rattle.points.specs.Ranges.{PreparedRanges}
+use Rattle.points.proofs.distance_at.Statement.{statement}
+use Rattle.points.proofs.distance_at.Tie as tie
+
+-- the squares of numbers of ticks, and twice a product, as the code multiplies
+squared : {n : ℕ} → n ≤ 4096 → Holds w64 (2 ^ 24) (toZ w64 n *ℤ toZ w64 n) (pos n *ℤ pos n)
+squared h = from-u h tt ⊠ from-u h tt
+
+doubled : {n : ℕ} → n ≤ 4096 → Holds w64 (2 ^ 13) (pos 2 *ℤ toZ w64 n) (pos 2 *ℤ pos n)
+doubled h = lit (pos 2) ⊠ from-u h tt
+
+crossed : {n d : ℕ} → n ≤ 4096 → d ≤ 4096 → Holds w64 (2 ^ 25) (back w64 (pos 2 *ℤ toZ w64 n) *ℤ toZ w64 d) (pos 2 *ℤ pos n *ℤ pos d)
+crossed h k = read (doubled h) tt ⊠ from-u k tt
+
+module _ {a : ℤ} {p : Prepared} {n d : ℕ} (h : PreparedRanges a p × ((n ≤ 4096) × (d ≤ 4096))) where
+  first : Holds w64 (2 ^ 50) (back w64 (p .e) *ℤ back w64 (toZ w64 d *ℤ toZ w64 d)) (p .e *ℤ (pos d *ℤ pos d))
+  first = param (h .0 .e-small) tt ⊠ read (squared (h .1 .1)) tt
+
+  second : Holds w64 (2 ^ 51) (back w64 (p .m) *ℤ back w64 (back w64 (pos 2 *ℤ toZ w64 n) *ℤ toZ w64 d)) (p .m *ℤ (pos 2 *ℤ pos n *ℤ pos d))
+  second = param (h .0 .m-small) tt ⊠ read (crossed (h .1 .0) (h .1 .1)) tt
+
+  third : Holds w64 (2 ^ 50) (back w64 a *ℤ back w64 (toZ w64 n *ℤ toZ w64 n)) (a *ℤ (pos n *ℤ pos n))
+  third = param (h .0 .a-small) tt ⊠ read (squared (h .1 .0)) tt
+
+  two : Holds w64 (2 ^ 50 + 2 ^ 51)
+      (back w64 (back w64 (p .e) *ℤ back w64 (toZ w64 d *ℤ toZ w64 d))
+      +ℤ back w64 (back w64 (p .m) *ℤ back w64 (back w64 (pos 2 *ℤ toZ w64 n) *ℤ toZ w64 d)))
+      (p .e *ℤ (pos d *ℤ pos d) +ℤ p .m *ℤ (pos 2 *ℤ pos n *ℤ pos d))
+  two = read first tt ⊞ read second tt
+
+  whole : Holds w64 (2 ^ 52)
+      (back w64 (back w64 (back w64 (p .e) *ℤ back w64 (toZ w64 d *ℤ toZ w64 d))
+      +ℤ back w64 (back w64 (p .m) *ℤ back w64 (back w64 (pos 2 *ℤ toZ w64 n) *ℤ toZ w64 d)))
+      +ℤ back w64 (back w64 a *ℤ back w64 (toZ w64 n *ℤ toZ w64 n)))
+      (dist (p .e) (p .m) a (pos n) (pos d))
+  whole =
+      subst (Holds w64 (2 ^ 52) _)
+      (ring 5 (λ e m a n d. e ⊗ (d ⊗ d) ⊕ m ⊗ (# 2 ⊗ n ⊗ d) ⊕ a ⊗ (n ⊗ n) ≔ e ⊗ d ⊗ d ⊕ # 2 ⊗ m ⊗ n ⊗ d ⊕ a ⊗ n ⊗ n) tt
+      (p .e) (p .m) a (pos n) (pos d))
+      (read two tt ⊞ read third tt)
+
+pub distance-at-spec : {M : Type 1} → statement M
+unfolding distanceAt
+distance-at-spec =
+    tie.close
+    (tie.spec
+    (λ c. search needs)
+    (λ c. search needs)
+    ? ? ? ? ? ? ? ? ? ? ?)
