@@ -25,7 +25,7 @@ use Rattle.field.proofs.Nested.{widen}
 
 -- ---- bounds of sizes 0
 
-weighted-none : (w : ℤ) → weighted w 0 0 ≡ noBounds
+pub weighted-none : (w : ℤ) → weighted w 0 0 ≡ noBounds
 unfolding weighted
 weighted-none w = by (ltZ w (pos 0))
   where

@@ -1,5 +1,5 @@
 -- The peak of a point on a ray is the q of the foot for each span that has the foot strictly inside (`peak-inside`), since the ray has it inside then
--- too. It is at most 65536 (`peak-le`). What `span_bounds` makes of its tests are the two q (`far-q`, `least-is`, `greatest-is`).
+-- too. It is at most 65536 (`peak-le`). What `span_bounds` makes of its tests are the two q (`far-by`, `least-by`, `greatest-by`).
 use mathlib.Core.Path.{_≡_, refl, sym, subst, _∙_}
 use mathlib.Core.Bool.{Bool, true, false, cond, _||_, true≢false}
 use Prim.Native.Nat.{ℕ, _*_, _≤_, _<_, min, max}
@@ -8,6 +8,9 @@ use native.Mathlib.Omega.{arith}
 use borrow.Author.Tests.{ltb-false}
 use lib.Dec.{ltb}
 use lib.IntN.{ℤ, pos, natAbs}
+use lib.Signed.{_≤ℤ_}
+use Rattle.exact.specs.Range.{Small}
+use Rattle.exact.proofs.Order.{nn-pos}
 use Rattle.exact.proofs.Tests.{positive-small}
 use Rattle.field.specs.declared.Prepared.{Prepared}
 use Rattle.field.specs.declared.Span.{Span}
@@ -51,6 +54,9 @@ module _ {a : ℤ} {p : Prepared} (r : PreparedRanges a p) where
   unfolding peakOf
   peak-inside h e = rw (foot-widen a (r .nonneg .a-nn) p (span-ordered h) ray-ordered (span-inside h) e)
 
+pub peak-small : {a : ℤ} {p : Reached} → ReachedRanges a p → (pos 0 ≤ℤ p .peak) × Small 65536 (p .peak)
+peak-small {a} {p} r = rw (r .peak-is) (nn-pos (peakOf a (p .point)), record { abs = peak-le (r .ranges) })
+
 -- ---- the two q of a span, by its tests
 
 module _ (a : ℤ) (p : Reached) (s : Span) (r : ReachedRanges a p) (h : SpanRanges s) where
@@ -75,7 +81,7 @@ module _ (a : ℤ) (p : Reached) (s : Span) (r : ReachedRanges a p) (h : SpanRan
   neither false false z e = (refl, refl, e)
 
   -- out of reach, both are 0
-  pub far-q : (footInside a q s || (ltb i whole || ltb j whole)) ≡ false → (qlo a q s ≡ 0) × (qhi a q s ≡ 0)
+  far-q : (footInside a q s || (ltb i whole || ltb j whole)) ≡ false → (qlo a q s ≡ 0) × (qhi a q s ≡ 0)
   unfolding qlo qhi
   far-q e =
       let n = neither (footInside a q s) (ltb i whole) (ltb j whole) e in
@@ -83,10 +89,22 @@ module _ (a : ℤ) (p : Reached) (s : Span) (r : ReachedRanges a p) (h : SpanRan
       let y = ltb-false j whole (n .2) in
       (low-q-zero whole (max i j) (omega (arith, x)), rw (n .0) (high-q-zero whole (min i j) whole-pos (omega (arith, x, y))))
 
-  pub greatest-is : cond (footInside a q s) (natAbs (p .peak)) (highQ whole (min i j)) ≡ qhi a q s
+  greatest-is : cond (footInside a q s) (natAbs (p .peak)) (highQ whole (min i j)) ≡ qhi a q s
   unfolding qhi
   greatest-is = by (footInside a q s) refl
     where
       by : (b : Bool) → footInside a q s ≡ b → cond b (natAbs (p .peak)) (highQ whole (min i j)) ≡ cond b (footQ a q) (highQ whole (min i j))
       by true e = rw (r .peak-is) (peak-inside (r .ranges) h e)
       by false e = refl
+
+  -- the same of results that are those numbers
+  module _ {f : Bool} {x y z : ℕ} (f-is : f ≡ footInside a q s) (x-is : x ≡ i) (y-is : y ≡ j) (z-is : z ≡ whole) where
+    pub far-by : (f || (ltb x z || ltb y z)) ≡ false → (qlo a q s ≡ 0) × (qhi a q s ≡ 0)
+    far-by e = far-q (rw (f-is, x-is, y-is, z-is) at e)
+
+    pub least-by : {r : ℕ} → r ≡ lowQ z (max x y) → r ≡ qlo a q s
+    unfolding qlo
+    least-by e = rw (x-is, y-is, z-is) at e
+
+    pub greatest-by : {r : ℕ} → r ≡ cond f (natAbs (p .peak)) (highQ z (min x y)) → r ≡ qhi a q s
+    greatest-by e = (rw (f-is, x-is, y-is, z-is) at e) ∙ greatest-is

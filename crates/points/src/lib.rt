@@ -107,7 +107,13 @@ pub fn reaches(a: i64, p: Prepared, s: Span) -> bool
 fn comes_within(foot: bool, whole: u64, i: u64, j: u64) -> bool
     ensures { λ r. ⌜ r ≡ (foot || (ltb i whole || ltb j whole)) ⌝ }
 {
-    foot || i < whole || j < whole
+    if foot {
+        return true;
+    }
+    if i < whole {
+        return true;
+    }
+    j < whole
 }
 
 // ---- bounds
@@ -152,7 +158,7 @@ pub fn peak(a: i64, p: Prepared) -> i64
 
 // 65536 times the greatest u, rounded up: at the nearest place where that is inside, and else at the nearer end.
 fn greatest_q(foot: bool, peak: i64, whole: u64, d: u64) -> u64
-    requires { ⌜ (pos 0 ≤ℤ peak) × (peak ≤ℤ pos 65536) ⌝ }
+    requires { ⌜ (pos 0 ≤ℤ peak) × Small 65536 peak ⌝ }
     requires { ⌜ (0 < whole) × (whole ≤ 2 ^ 46) ⌝ }
     ensures { λ r. ⌜ r ≡ cond foot (natAbs peak) (highQ whole d) ⌝ }
 {

@@ -1,25 +1,17 @@
+use mathlib.Core.Path.{ap}
+use lib.IntN.{natAbs}
+use lib.Signed.{yes-nonNeg}
+use mir.Syntax.{w64}
 use borrow.Author.Needs.{needs}
+use Rattle.exact.proofs.Machine.{param, to-u}
 use Rattle.points.proofs.greatest_q.Statement.{statement}
 use Rattle.points.proofs.greatest_q.Tie as tie
-use Rattle.points.proofs.greatest_q.Reads as reads
-use Rattle.points.proofs.greatest_q.Lts as lts
-use Rattle.points.proofs.high_q.Reads as high-q-reads
-
--- src/lib.rt:160:16
-cast-result : tie.Need-cast-result
-cast-result c = ?
-
--- src/lib.rt:160:9
-returns : tie.Need-returns
-returns c = ?
-
--- src/lib.rt:162:5
-high-q-requires : tie.Need-high-q-requires
-high-q-requires c κs = search needs
-
--- src/lib.rt:154:1
-returns-2 : tie.Need-returns-2
-returns-2 c = ?
 
 pub greatest-q-spec : {M : Type 1} → statement M
-greatest-q-spec = tie.close (tie.spec cast-result returns high-q-requires returns-2)
+greatest-q-spec =
+    tie.close
+    (tie.spec
+    (λ c. let h = c .before .pre .0 in to-u (param (h .1) tt) (yes-nonNeg (h .0)) tt tt)
+    (λ c. rw (c .if1 .taken) (ap natAbs (param {w = w64} (c .before .pre .0 .1) tt .is)))
+    (λ c κs. search needs)
+    (λ c. rw (c .before .if1 .left) (c .high-q .ensures)))
