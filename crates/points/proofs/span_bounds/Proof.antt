@@ -75,9 +75,10 @@ high c =
 both-le : (c : tie.After-greatest-q) → (c .before .before .before .low-q .result ≤ 65536) × (c .greatest-q .result ≤ 65536)
 both-le c =
     let h = start (tests c) .pre in
-    let r = h .0 .ranges in
-    (le-trans (le-of-eq (low c)) (qlo-le _ _ _),
-    le-trans (le-of-eq (high c)) (qhi-le _ _ _ (positive-small (r .square-low) (r .square-high) .0) (h .1 .ticks-low)))
+    let r = h .0 .ranges in (
+      le-trans (le-of-eq (low c)) (qlo-le _ _ _),
+      le-trans (le-of-eq (high c)) (qhi-le _ _ _ (positive-small (r .square-low) (r .square-high) .0) (h .1 .ticks-low)),
+    )
 
 weigh-is : {r : Bounds} {w w′ : ℤ} {x x′ y y′ : ℕ} → r ≡ weighted w (x * x) (y * y) → w ≡ w′ → x ≡ x′ → y ≡ y′ → r ≡ weighted w′ (x′ * x′) (y′ * y′)
 weigh-is e w x y = rw (w, x, y) at e
