@@ -1,7 +1,7 @@
 -- Laws of the numbers in bytes, as the code's tests and signed sums need them.
--- `zeros-after file at` has the 11 bytes after a place as the code asks for them; `signed-read n h` is what 32 bits give for a signed 16-bit number.
+-- `zeros-after file at` has the 11 bytes after a place as the code asks for them; `signed-read n h` is a signed 16-bit number as the code computes it.
 use Prim.Native.Nat.{ℕ, zero, suc, _+_, _-_, _%_, _<_}
-use native.Mathlib.Nat.{add-zero, zero-add, add-suc, suc-add}
+use native.Mathlib.Nat.{add-zero, zero-add, add-suc, suc-add, mod-le}
 use native.Mathlib.Numerals.{add-one}
 use native.Mathlib.Decide.{decLt}
 use native.Mathlib.Omega.{arith}
@@ -13,8 +13,9 @@ use lib.IntN.{pos, _-ℤ_}
 use lib.Dec.{eqb, ltb}
 use mir.Syntax.{w32}
 use mir.Val.{SFits, toZ}
+use mir.Facts.{toZ-pos, toZ-ofZ}
 use Rattle.exact.proofs.Tests.{both-true, true-both, same-test}
-use Rattle.exact.proofs.Machine.{Holds, fit, read, from-u, lit, _⊟_, back}
+use Rattle.exact.proofs.Machine.{fit, from-u, lit, _⊟_, back}
 use Rattle.record.specs.Bytes.{byte, u16, u32, hasBytes, zeros}
 
 -- two numbers are zero exactly where one made of them is
@@ -71,7 +72,11 @@ module _ (file : List ℕ) where
         zeros-4 (at + 8),
       )
 
--- ---- a 16-bit number n, as a signed one
+-- ---- a signed 16-bit number
+
+-- a remainder of what is added, less 32768, fits 32 bits
+pub signed-fits : (n d : ℕ) → n < 65536 → SFits w32 (toZ w32 ((n + 32768) % d) -ℤ pos 32768)
+signed-fits n d h = fit (from-u {k = 98303} {n = (n + 32768) % d} (omega (arith, mod-le (n + 32768) d)) tt ⊟ lit (pos 32768)) tt
 
 module _ (n : ℕ) (h : n < 65536) where
   signed : pos ((n + 32768) % 65536) -ℤ pos 32768 ≡ cond (ltb n 32768) (pos n) (pos n -ℤ pos 65536)
@@ -86,12 +91,8 @@ module _ (n : ℕ) (h : n < 65536) where
         rw (m, le-ltb n 32768 (omega arith), lt-ltb (n - 32768) 32768 (omega arith), lt-ltb n 65536 h, e)
   ]
 
-  -- in 32 bits
-  computed : Holds w32 98303 (toZ w32 ((n + 32768) % 65536) -ℤ pos 32768) (pos ((n + 32768) % 65536) -ℤ pos 32768)
-  computed = from-u {k = 65535} {n = (n + 32768) % 65536} (omega arith) tt ⊟ lit (pos 32768)
-
-  pub signed-fits : SFits w32 (toZ w32 ((n + 32768) % 65536) -ℤ pos 32768)
-  signed-fits = fit computed tt
-
+  -- it is read as it is
   pub signed-read : back w32 (toZ w32 ((n + 32768) % 65536) -ℤ pos 32768) ≡ cond (ltb n 32768) (pos n) (pos n -ℤ pos 65536)
-  signed-read = read computed tt .is ∙ signed
+  signed-read =
+      let m = (n + 32768) % 65536 in
+      toZ-ofZ (signed-fits n 65536 h) ∙ rw (toZ-pos w32 {n = m} (omega arith)) signed

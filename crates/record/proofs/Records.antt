@@ -4,7 +4,6 @@ use Prim.Native.Nat.{ℕ, _+_}
 use mathlib.Core.Path.{_≡_, _∙_}
 use mathlib.Core.List.{List}
 use mathlib.Core.Bool.{Bool, true, false, cond}
-use lib.IntN.{pos}
 use lib.Dec.{eqb}
 use Rattle.exact.proofs.Tests.{eqℤ-true}
 use Rattle.record.specs.Bytes.{byte, zeros}
@@ -18,7 +17,7 @@ use Rattle.record.proofs.Bytes.{zeros-1}
 
 point-known : (n : Node) → isPoint n ≡ true → kindKnown n ≡ true
 unfolding isPoint kindKnown
-point-known n p = rw (eqℤ-true (n .kind) (pos 1) p)
+point-known n p = rw (eqℤ-true (n .kind) _ p)
 
 module _ (file : List ℕ) (at held : ℕ) where
   abbrev node : Node

@@ -39,5 +39,5 @@ are-zero-after-spec =
       eq-eqb _ _ (two .if2 .left),
       ← three .before .u32-at .ensures,
       eq-eqb _ _ (three .if3 .left),
-      ← c .u32-at2 .ensures,
+      c .u32-at2 .ensures,
     )))

@@ -1,4 +1,3 @@
-use native.Mathlib.Omega.{arith}
 use borrow.Author.Needs.{needs}
 use Rattle.record.specs.Bytes.{i16}
 use Rattle.record.proofs.Bytes.{signed-fits, signed-read}
@@ -13,5 +12,5 @@ i16-at-spec =
     (λ c κs. search needs)
     (λ c. search needs)
     (λ c. search needs)
-    (λ c. signed-fits (c .u16-at .result) (c .u16-at .ensures .1))
+    (λ c. signed-fits (c .u16-at .result) _ (c .u16-at .ensures .1))
     (λ c. rw (← c .u16-at .ensures .0) (signed-read (c .u16-at .result) (c .u16-at .ensures .1))))
