@@ -5,8 +5,8 @@ use exact::is_between;
 use record::Verdict;
 use record::ask;
 use record::held_after;
-use record::record_at;
-use record::record_questions;
+use record::node_at;
+use record::record_questions_at;
 use record::u16_at;
 use record::u32_at;
 ghost use mathlib.Core.Path.{_≡_};
@@ -112,11 +112,10 @@ fn records_questions(file: &[u8], n: usize, first: usize) -> Verdict
     let mut at = first;
     let mut held = 0;
     while 0 < left {
-        let rec = record_at(file, at);
-        if let Verdict::No(number) = record_questions(rec, held) {
+        if let Verdict::No(number) = record_questions_at(file, at, held) {
             return Verdict::No(number);
         }
-        held = held_after(rec.node, held);
+        held = held_after(node_at(file, at), held);
         at += 12;
         left -= 1;
     }

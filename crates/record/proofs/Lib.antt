@@ -1,3 +1,4 @@
 pub mod Questions
 pub mod Bytes
 pub mod Ranges
+pub mod Records

@@ -10,8 +10,8 @@ ghost use mathlib.Core.Bool.{cond};
 ghost use lib.ListN.{length};
 ghost use Rattle.record.specs.Bytes.{u16, u32, i16, zeros};
 ghost use Rattle.record.specs.Questions.{firstNo};
-ghost use Rattle.record.specs.Nodes.{isPoint, coordinate, inRange, heldAfter};
-ghost use Rattle.record.specs.Record.{nodeAt, zeroBytes, recordAt, nodeQuestions, recordQuestions};
+ghost use Rattle.record.specs.Nodes.{isPoint, kindKnown, coordinate, inRange, heldAfter};
+ghost use Rattle.record.specs.Record.{nodeAt, recordAt, nodeQuestions, recordQuestions};
 ghost use Rattle.record.specs.Ranges.{Ready};
 
 // What a list of questions is answered: yes to all, or the number of the first no.
@@ -56,29 +56,25 @@ pub fn i16_at(file: &[u8], at: usize) -> i32
     requires { ⌜ at + 2 ≤ length (now file) ⌝ }
     ensures { λ r. ⌜ r ≡ i16 (now (file .entry)) at ⌝ }
 {
-    let n = u16_at(file, at);
-    if n < 32768 {
-        n as i32
-    } else {
-        n as i32 - 65536
-    }
+    let biased = (u16_at(file, at) + 32768) % 65536;
+    biased as i32 - 32768
 }
 
-// Are n bytes zero, from a place on?
-fn are_zero(file: &[u8], at: usize, n: usize) -> bool
-    requires { ⌜ at + n ≤ length (now file) ⌝ }
-    ensures { λ r. ⌜ r ≡ zeros (now (file .entry)) at n ⌝ }
+// Are the 11 bytes after a place zero?
+fn are_zero_after(file: &[u8], at: usize) -> bool
+    requires { ⌜ at + 12 ≤ length (now file) ⌝ }
+    ensures { λ r. ⌜ r ≡ zeros (now (file .entry)) (at + 1) 11 ⌝ }
 {
-    let mut left = n;
-    let mut i = at;
-    while 0 < left {
-        if file[i] != 0 {
-            return false;
-        }
-        i += 1;
-        left -= 1;
+    if file[at + 1] != 0 {
+        return false;
     }
-    true
+    if u16_at(file, at + 2) != 0 {
+        return false;
+    }
+    if u32_at(file, at + 4) != 0 {
+        return false;
+    }
+    u32_at(file, at + 8) == 0
 }
 
 // ---- questions
@@ -113,6 +109,13 @@ pub fn is_point(n: Node) -> bool
     n.kind == 1
 }
 
+// Is a kind 1 to 5?
+fn is_known(n: Node) -> bool
+    ensures { λ r. ⌜ r ≡ kindKnown n ⌝ }
+{
+    is_between_signed(1, 5, n.kind)
+}
+
 // Is a coordinate -2047 to 2047?
 pub fn is_coordinate(z: i32) -> bool
     ensures { λ r. ⌜ r ≡ coordinate z ⌝ }
@@ -132,36 +135,15 @@ fn in_range(n: Node) -> bool
     both(both(both(both(r, x), y), z), w)
 }
 
-// Are the zero bytes of the record at a place zero?
-fn is_zeroed(file: &[u8], at: usize, node: Node) -> bool
-    requires { ⌜ at + 12 ≤ length (now file) ⌝ }
-    ensures { λ r. ⌜ r ≡ zeros (now (file .entry)) (at + 1) (zeroBytes node) ⌝ }
-{
-    if is_point(node) {
-        are_zero(file, at + 1, 1)
-    } else {
-        are_zero(file, at + 1, 11)
-    }
-}
-
-// The record at a place.
-pub fn record_at(file: &[u8], at: usize) -> Record
-    requires { ⌜ at + 12 ≤ length (now file) ⌝ }
-    ensures { λ r. ⌜ r ≡ recordAt (now (file .entry)) at ⌝ }
-{
-    let node = node_at(file, at);
-    Record {
-        node: node,
-        zeroed: is_zeroed(file, at, node),
-    }
-}
-
 // Questions 8 to 10 about a node. Of these, 9 asks nothing of a point, and 8 and 10 nothing of an operator.
 fn node_questions(node: Node, held: usize) -> Verdict
     ensures { λ r. ⌜ r ≡ firstNo (nodeQuestions node held) ⌝ }
 {
     if is_point(node) {
-        ask(8, in_range(node), ask(10, held < 64, Verdict::Yes))
+        if !in_range(node) {
+            return Verdict::No(8);
+        }
+        ask(10, held < 64, Verdict::Yes)
     } else {
         ask(9, 2 <= held, Verdict::Yes)
     }
@@ -172,8 +154,34 @@ pub fn record_questions(rec: Record, held: usize) -> Verdict
     ensures { λ r. ⌜ r ≡ firstNo (recordQuestions rec held) ⌝ }
 {
     let node = rec.node;
-    let known = is_between_signed(1, 5, node.kind);
-    ask(6, known, ask(7, rec.zeroed, node_questions(node, held)))
+    if !is_known(node) {
+        return Verdict::No(6);
+    }
+    if !rec.zeroed {
+        return Verdict::No(7);
+    }
+    node_questions(node, held)
+}
+
+// The same about the record at a place. A point's kind is known, and only its byte 1 is a zero byte.
+pub fn record_questions_at(file: &[u8], at: usize, held: usize) -> Verdict
+    requires { ⌜ at + 12 ≤ length (now file) ⌝ }
+    ensures { λ r. ⌜ r ≡ firstNo (recordQuestions (recordAt (now (file .entry)) at) held) ⌝ }
+{
+    let node = node_at(file, at);
+    if is_point(node) {
+        if file[at + 1] != 0 {
+            return Verdict::No(7);
+        }
+    } else {
+        if !is_known(node) {
+            return Verdict::No(6);
+        }
+        if !are_zero_after(file, at) {
+            return Verdict::No(7);
+        }
+    }
+    node_questions(node, held)
 }
 
 // The values held after a node that found what it needs.

@@ -7,7 +7,7 @@ use lib.ListN.{length}
 use borrow.Author.Needs.{needs}
 use Rattle.record.specs.Questions.{firstNo, next}
 use Rattle.record.specs.Nodes.{heldAfter}
-use Rattle.record.specs.Record.{recordAt}
+use Rattle.record.specs.Record.{nodeAt, recordAt}
 use Rattle.record.specs.declared.Verdict.{Verdict}
 use Rattle.record.proofs.Ranges.{ready}
 use Rattle.part.specs.File.{recordsFrom, recordsQuestions}
@@ -25,21 +25,20 @@ abbrev μ-loop : tie.MeasureT-loop
 μ-loop file n first left₀ at₀ held₀ left at held = left
 
 -- the whole row, by the answer about the record at hand and by what is left after it
-step : (c : tie.After-record-questions Inv-loop μ-loop)
-    → (let b = c .before .before in
-    let l = b .before .loop in
-    let a = b .before .before .before .args in
+step : (c : tie.After-record-questions-at Inv-loop μ-loop)
+    → (let l = c .before .before .loop in
+    let a = c .before .before .before .before .args in
     row (a .file .now) (a .n) (a .first) 0
-    ≡ next (c .record-questions .result) (row (a .file .now) (l .left - 1) (l .at + 12) (heldAfter (c .before .record-at .result .node) (l .held))))
+    ≡ next (c .record-questions-at .result) (row (a .file .now) (l .left - 1) (l .at + 12) (heldAfter (nodeAt (a .file .now) (l .at)) (l .held))))
+unfolding recordAt
 step c =
-    let b = c .before .before in
-    let l = b .before .loop in
-    let file = b .before .before .before .args .file .now in
-    rw (← l .inv .1, records-step file (l .left) (l .at) (b .loop-test .taken), c .record-questions .ensures, c .before .record-at .ensures)
+    let l = c .before .before .loop in
+    let file = c .before .before .before .before .args .file .now in
+    rw (← l .inv .1, records-step file (l .left) (l .at) (c .before .loop-test .taken), c .record-questions-at .ensures)
     (questions-step (recordAt file (l .at)) (recordsFrom file (l .left - 1) (l .at + 12)) (l .held))
 
 pub records-questions-spec : {M : Type 1} → statement M
-unfolding next recordsQuestions recordsFrom firstNo
+unfolding next recordAt recordsQuestions recordsFrom firstNo
 records-questions-spec =
     tie.close
     (tie.spec
@@ -47,15 +46,19 @@ records-questions-spec =
     μ-loop
     (λ c. search needs)
     (λ c κs. omega arith)
-    (λ c κs. search needs)
     (λ c. search needs)
     (λ c. rw (step (c .before .before .before), c .before .number .given .1))
     (λ c. search needs)
-    (λ c κs. let q = c .before .before in ready (q .before .record-at .result) _ (sym (q .record-questions .ensures) ∙ c .enum-told .given .1))
+    (λ c κs. omega arith)
+    (λ c κs.
+    let q = c .before .before .before in
+    rw (c .node-at .ensures) (ready (recordAt _ _) _ (sym (q .record-questions-at .ensures) ∙ c .before .enum-told .given .1)))
     (λ c. omega arith)
     (λ c. omega arith)
     (λ c. omega arith)
-    (λ c. (omega arith, rw (step (c .before .before .before), c .before .enum-told .given .1, c .held-after .ensures)))
+    (λ c.
+    let told = c .before .before in
+    (omega arith, rw (step (told .before .before), told .enum-told .given .1, c .held-after .ensures, c .before .node-at .ensures)))
     (λ c κs. search needs)
     (λ c.
     let l = c .before .before .loop in

@@ -1,5 +1,6 @@
 use mathlib.Core.Path.{sym, _∙_}
 use borrow.Author.Needs.{needs}
+use borrow.Author.Tests.{not-true, not-false}
 use Rattle.record.specs.Questions.{firstNo}
 use Rattle.record.specs.Nodes.{forPoint, forOperator}
 use Rattle.record.specs.Record.{nodeQuestions}
@@ -13,15 +14,19 @@ node-questions-spec =
     (tie.spec
     (λ c κs. search needs)
     (λ c κs. search needs)
-    (λ c κs. search needs)
+    (λ c.
+    let r = c .before in
+    rw (
+      sym (r .before .before .is-point .ensures) ∙ r .before .if1 .taken,
+      sym (r .in-range .ensures) ∙ not-true (r .in-range .result) (c .if2 .taken),
+    ))
     (λ c κs. search needs)
     (λ c κs. search needs)
     (λ c.
-    let k = c .before .before .before in
+    let r = c .before .before in
     rw (
-      sym (k .before .is-point .ensures) ∙ k .if1 .taken,
-      c .ask2 .ensures,
-      c .before .ask .ensures,
-      c .before .before .in-range .ensures,
+      sym (r .before .before .is-point .ensures) ∙ r .before .if1 .taken,
+      sym (r .in-range .ensures) ∙ not-false (r .in-range .result) (c .before .if2 .left),
+      c .ask .ensures,
     ))
-    (λ c. rw (sym (c .before .before .is-point .ensures) ∙ c .before .if1 .left, c .ask3 .ensures)))
+    (λ c. rw (sym (c .before .before .is-point .ensures) ∙ c .before .if1 .left, c .ask2 .ensures)))
