@@ -11,7 +11,7 @@ probe-spec =
     (tie.spec
     (λ c. search needs)
     (λ c κs.
-    let r = c .pre .0 in
+    let r = c .before .pre .0 in
     let h = r .ticks-high in
-    r .probe _ (record { from-high = omega arith; to-high = omega arith; ticks-low = r .ticks-low; ticks-high = h }))
+    r .probe _ (record { order = omega arith; within = omega arith; from-high = omega arith; to-high = omega arith; ticks-low = r .ticks-low; ticks-high = h }))
     (λ c. c .span-state .ensures))
