@@ -4,9 +4,23 @@ use Prim.Native.Nat.{ℕ, zero, suc, _+_, _^_, _≤_}
 use mathlib.Core.Path.{_≡_, refl, ap, fun-ext}
 use mathlib.Core.List.{List, [], _∷_}
 use native.Mathlib.Omega.{arith, pow-step}
+use Rattle.field.specs.Ray.{ticks}
+use Rattle.bounds.specs.Probe.{SpanRanges}
 use Rattle.halving.specs.Halving.{probeCount, spanMarks, walk}
 use Rattle.halving.specs.FirstHit.{hit}
 
+-- n ticks from tick i on, as a span of the ray
+pub ticks-ranges : (i n : ℕ) {T : ℕ} → i + n ≤ T → 1 ≤ T → T ≤ 4096 → SpanRanges (ticks i n T)
+ticks-ranges i n h low high = record {
+  order = omega arith;
+  within = h;
+  from-high = omega arith;
+  to-high = omega arith;
+  ticks-low = low;
+  ticks-high = high;
+}
+
+-- the same state for every span of the first T ticks
 abbrev pub Agree : ℕ → (ℕ → ℕ → ℕ) → (ℕ → ℕ → ℕ) → Type 0
 Agree T st st′ = (i n : ℕ) → i + n ≤ T → st i n ≡ st′ i n
 
