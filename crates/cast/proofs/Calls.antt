@@ -1,9 +1,9 @@
--- What each way out of the calls shows. An accepted file and ray can be searched (`searchable`), and the states that the search finds in the prepared
--- numbers, of spans of the ray, are those of the file's solid on it (`states-are`), for any number of ticks up to 4,096; so are a column's bits
--- (`bits-are`), up to 2,048. The searches look at no other spans (`halving`, proofs/Within).
+-- What each way out of the calls shows. An accepted file and ray can be searched (`searchable`), and the states of the ray's spans that the search
+-- finds in the prepared numbers are those of the file's solid on it (`states-are`), for any number of ticks up to 4,096; so are a column's bits, up
+-- to 2,048 (`bits-are`). The searches look at no other spans (`halving`, proofs/Within).
 use mathlib.Core.Path.{_≡_, refl, ap, ap₂, _∙_}
 use mathlib.Core.List.{List, [], _∷_, _++_}
-use Prim.Native.Nat.{ℕ, _+_, _^_, _≤_, _<_}
+use Prim.Native.Nat.{ℕ, _^_, _≤_, _<_}
 use native.Mathlib.Omega.{arith}
 use borrow.Author.Tests.{leb-true}
 use lib.ListN.{length, getD, drop}

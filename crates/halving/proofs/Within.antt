@@ -2,7 +2,7 @@
 -- of the first T ticks (`Agree`) have the same count, marks, cast and first hit.
 use Prim.Native.Nat.{ℕ, zero, suc, _+_, _^_, _≤_}
 use mathlib.Core.Path.{_≡_, refl, ap, fun-ext}
-use mathlib.Core.List.{List, [], _∷_}
+use mathlib.Core.List.{[], _∷_}
 use native.Mathlib.Omega.{arith, pow-step}
 use Rattle.field.specs.Ray.{ticks}
 use Rattle.bounds.specs.Probe.{SpanRanges}

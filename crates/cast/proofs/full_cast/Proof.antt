@@ -40,4 +40,5 @@ full-cast-spec =
     let k = c .before .before .before .before .before .before .before in
     let l = k .before .before .load-buffer in
     let w = c .before .before .cast-ticks in
-    cast-made _ _ _ _ _ _ (states-are _ _ _ _ refl (l .ensures .1) (accepted k) _ _ (omega arith) (omega arith)) (buffer k) (w .ensures .0) (w .ensures .1)))
+    cast-made _ _ _ _ _ _ (states-are _ _ _ _ refl (l .ensures .1) (accepted k) _ _ (omega arith) (omega arith)) (buffer k)
+    (w .ensures .0) (w .ensures .1)))

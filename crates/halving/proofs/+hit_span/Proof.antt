@@ -81,13 +81,13 @@ pub +hit-span-spec : {M : Type 1} → statement M
     -- the left half is clear
     (λ c. let l = c .before .before .before .before .before in let e = l .before .before in let k = e .before .before .before in let s = start t e in
     let a = s .args in let g = c .before .before .before .left .given in
-    hit-right (stateIn (a .prepared .now) (a .s)) (a .s .budget) (a .level) (a .first) (a .made) (a .len) (s .pre .1 .1 .size) (k .before .before .if1 .left)
-    (a .level - 1) (a .len / 2) (omega (arith, several t e)) (half-size (s .pre .1 .1 .size) (several t e))
+    hit-right (stateIn (a .prepared .now) (a .s)) (a .s .budget) (a .level) (a .first) (a .made) (a .len) (s .pre .1 .1 .size)
+    (k .before .before .if1 .left) (a .level - 1) (a .len / 2) (omega (arith, several t e)) (half-size (s .pre .1 .1 .size) (several t e))
     (sym (k .probe .ensures) ∙ e .before .if3 .left)
     (l .hit-span .result) (c .hit-span2 .result) (g .0 .0) (g .1) (l .hit-span .ensures) (c .hit-span2 .ensures))
     -- the left half ends the search
     (λ c. let l = c .before in let e = l .before .before in let k = e .before .before .before in let s = start t e in let a = s .args in
-    hit-left (stateIn (a .prepared .now) (a .s)) (a .s .budget) (a .level) (a .first) (a .made) (a .len) (s .pre .1 .1 .size) (k .before .before .if1 .left)
-    (a .level - 1) (a .len / 2) (omega (arith, several t e)) (half-size (s .pre .1 .1 .size) (several t e))
+    hit-left (stateIn (a .prepared .now) (a .s)) (a .s .budget) (a .level) (a .first) (a .made) (a .len) (s .pre .1 .1 .size)
+    (k .before .before .if1 .left) (a .level - 1) (a .len / 2) (omega (arith, several t e)) (half-size (s .pre .1 .1 .size) (several t e))
     (sym (k .probe .ensures) ∙ e .before .if3 .left)
     (l .hit-span .result) (ended (l .hit-span .result) (c .match .keys2)) (l .hit-span .ensures))

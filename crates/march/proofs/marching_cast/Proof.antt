@@ -41,4 +41,5 @@ marching-cast-spec =
     let k = c .before .before .before .before .before .before .before in
     let l = k .before .before .load-buffer in
     let w = c .before .before .march-ticks in
-    march-made _ _ _ _ _ _ (states-are _ _ _ _ refl (l .ensures .1) (accepted k) _ _ (omega arith) (omega arith)) (buffer k) (w .ensures .0) (w .ensures .1)))
+    march-made _ _ _ _ _ _ (states-are _ _ _ _ refl (l .ensures .1) (accepted k) _ _ (omega arith) (omega arith)) (buffer k)
+    (w .ensures .0) (w .ensures .1)))
