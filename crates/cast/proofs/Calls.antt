@@ -24,7 +24,6 @@ use Rattle.field.specs.Marks.{markOf}
 use Rattle.loading.specs.Prepared.{preparedRoom}
 use Rattle.loading.specs.Loading.{rayQuestions, checkRay, loadedRay}
 use Rattle.loading.proofs.Loading.{accepted-ray}
-use Rattle.bounds.specs.Probe.{SpanRanges}
 use Rattle.bounds.proofs.Serving.{Serves, serves}
 use Rattle.halving.specs.declared.Search.{Search}
 use Rattle.halving.specs.declared.CastAnswer.{CastAnswer}
@@ -34,7 +33,7 @@ use Rattle.halving.specs.declared.HitAnswer.the-variants as found
 use Rattle.halving.specs.Search.{stateIn, Searchable, Halvable}
 use Rattle.halving.specs.Halving.{probeCount, spanMarks, walk, handed}
 use Rattle.halving.specs.FirstHit.{hit}
-use Rattle.halving.proofs.Within.{Agree, ticks-ranges, count-within, marks-within, walk-within, hit-within}
+use Rattle.halving.proofs.Within.{span-ranges, Agree, count-within, marks-within, walk-within, hit-within}
 use Rattle.cast.specs.declared.ColumnAnswer.{ColumnAnswer}
 use Rattle.cast.specs.declared.ColumnAnswer.the-variants as column
 use Rattle.cast.specs.Ticks.{exponent, rayState}
@@ -51,17 +50,6 @@ use Rattle.cast.proofs.Demands.{cast-demands, hit-demands, column-deman
 -- what the search is handed
 abbrev searched : Summary → ℕ → ℕ → Search
 searched part T budget = record { part = part; ticks = T; budget = budget }
-
--- the middle of a tick, as a span of the ray
-pub middle-ranges : (t : ℕ) {T : ℕ} → t < T → T ≤ 2048 → SpanRanges (middle t T)
-middle-ranges t h few = record {
-  order = omega arith;
-  within = omega arith;
-  from-high = omega arith;
-  to-high = omega arith;
-  ticks-low = omega arith;
-  ticks-high = omega arith;
-}
 
 pub whole : (k : ℕ) → Halvable (2 ^ k) 0 (2 ^ k) k
 whole k = record { size = refl; end = omega arith }
@@ -95,7 +83,7 @@ module _ (file : List ℕ) (ray : Ray) where
 
     pub states-are : (T budget : ℕ) → 1 ≤ T → T ≤ 4096 → Agree T (stateIn l (searched part T budget)) (rayState (solidOf file) ray T)
     unfolding stateIn rayState
-    states-are T budget low high t len h = served .states (ticks t len T) (ticks-ranges t len h low high)
+    states-are T budget low high t len h = served .states (ticks t len T) (span-ranges (omega arith) h low high)
 
     -- a tick's bit, by the marks that the search finds, is its own
     pub bits-are : (k budget : ℕ) → 2 ^ k ≤ 2048 → (t : ℕ) → t < 2 ^ k
@@ -103,10 +91,11 @@ module _ (file : List ℕ) (ray : Ray) where
     unfolding bitIn middleIn bitOf middleSolid
     bits-are k budget few t h =
         let agree = states-are (2 ^ k) budget (pow-pos k) (omega arith) in
+        let of-ray = span-ranges {s = middle t (2 ^ k)} (omega arith) (omega arith) (omega arith) (omega arith) in
         let mark : getD (spanMarks (stateIn l (searched part (2 ^ k) budget)) k 0) t emptyMark ≡ markOf (solidOf file) ray (2 ^ k) t
         = ap (λ (ms : List ℕ). getD ms t emptyMark) (marks-within agree k 0 (omega arith))
         ∙ ray-marks-at (solidOf file) (accepted-ray file ray (ray-accepted e) .valid) ray k t emptyMark h in
-        ap₂ tickBit mark (ap₂ solidBy (served .iso-is) (served .bounds (middle t (2 ^ k)) (middle-ranges t h few)))
+        ap₂ tickBit mark (ap₂ solidBy (served .iso-is) (served .bounds (middle t (2 ^ k)) of-ray))
 
 -- ---- a cast that hands over T ticks' marks: in the states it finds an answer, and marks of every tick
 

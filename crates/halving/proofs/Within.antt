@@ -4,16 +4,16 @@ use Prim.Native.Nat.{ℕ, zero, suc, _+_, _^_, _≤_}
 use mathlib.Core.Path.{_≡_, refl, ap, fun-ext}
 use mathlib.Core.List.{[], _∷_}
 use native.Mathlib.Omega.{arith, pow-step}
-use Rattle.field.specs.Ray.{ticks}
+use Rattle.field.specs.declared.Span.{Span}
 use Rattle.bounds.specs.Probe.{SpanRanges}
 use Rattle.halving.specs.Halving.{probeCount, spanMarks, walk}
 use Rattle.halving.specs.FirstHit.{hit}
 
--- n ticks from tick i on, as a span of the ray
-pub ticks-ranges : (i n : ℕ) {T : ℕ} → i + n ≤ T → 1 ≤ T → T ≤ 4096 → SpanRanges (ticks i n T)
-ticks-ranges i n h low high = record {
-  order = omega arith;
-  within = h;
+-- a span of the ray, whose ticks are few
+pub span-ranges : {s : Span} → s .from ≤ s .to → s .to ≤ s .ticks → 1 ≤ s .ticks → s .ticks ≤ 4096 → SpanRanges s
+span-ranges order within low high = record {
+  order = order;
+  within = within;
   from-high = omega arith;
   to-high = omega arith;
   ticks-low = low;

@@ -1,6 +1,7 @@
+use native.Mathlib.Omega.{arith}
 use borrow.Author.Needs.{needs}
 use Rattle.halving.specs.Search.{stateIn}
-use Rattle.halving.proofs.Within.{ticks-ranges}
+use Rattle.halving.proofs.Within.{span-ranges}
 use Rattle.halving.proofs.probe.Statement.{statement}
 use Rattle.halving.proofs.probe.Tie as tie
 
@@ -12,5 +13,5 @@ probe-spec =
     (λ c. search needs)
     (λ c κs.
     let p = c .before .pre in
-    p .0 .probe _ (ticks-ranges _ _ (p .1) (p .0 .ticks-low) (p .0 .ticks-high)))
+    p .0 .probe _ (span-ranges (omega arith) (omega arith) (p .0 .ticks-low) (p .0 .ticks-high)))
     (λ c. c .span-state .ensures))
