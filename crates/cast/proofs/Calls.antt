@@ -1,6 +1,7 @@
--- What each way out of the calls shows. An accepted file and ray can be searched (`searchable`), and the states that the search finds in the prepared
--- numbers are those of the file's solid on the ray (`states-are`), for any number of ticks up to 4,096; so are a column's bits (`bits-are`).
-use mathlib.Core.Path.{_≡_, refl, ap, ap₂, fun-ext, _∙_}
+-- What each way out of the calls shows. An accepted file and ray can be searched (`searchable`), and the states of the ray's spans that the search
+-- finds in the prepared numbers are those of the file's solid on it (`states-are`), for any number of ticks up to 4,096; so are a column's bits, up
+-- to 2,048 (`bits-are`). The searches look at no other spans (`halving`, proofs/Within).
+use mathlib.Core.Path.{_≡_, refl, ap, ap₂, _∙_}
 use mathlib.Core.List.{List, [], _∷_, _++_}
 use Prim.Native.Nat.{ℕ, _^_, _≤_, _<_}
 use native.Mathlib.Omega.{arith}
@@ -8,6 +9,7 @@ use borrow.Author.Tests.{leb-true}
 use lib.ListN.{length, getD, drop}
 use lib.IntN.{ℤ}
 use lib.Dec.{leb}
+use lib.Pow.{pow-pos}
 use Rattle.part.specs.declared.Summary.{Summary}
 use Rattle.part.specs.declared.Checked.the-variants.{Accepted, Refused}
 use Rattle.record.specs.Questions.{firstNo}
@@ -31,6 +33,7 @@ use Rattle.halving.specs.declared.HitAnswer.the-variants as found
 use Rattle.halving.specs.Search.{stateIn, Searchable, Halvable}
 use Rattle.halving.specs.Halving.{probeCount, spanMarks, walk, handed}
 use Rattle.halving.specs.FirstHit.{hit}
+use Rattle.halving.proofs.Within.{span-ranges, Agree, count-within, marks-within, walk-within, hit-within}
 use Rattle.cast.specs.declared.ColumnAnswer.{ColumnAnswer}
 use Rattle.cast.specs.declared.ColumnAnswer.the-variants as column
 use Rattle.cast.specs.Ticks.{exponent, rayState}
@@ -78,19 +81,21 @@ module _ (file : List ℕ) (ray : Ray) where
     pub searchable : (T budget : ℕ) → 1 ≤ T → T ≤ 4096 → Searchable l (searched part T budget)
     searchable T budget low high = record { probe = served .probe; ticks-low = low; ticks-high = high }
 
-    pub states-are : (T budget : ℕ) → stateIn l (searched part T budget) ≡ rayState (solidOf file) ray T
+    pub states-are : (T budget : ℕ) → 1 ≤ T → T ≤ 4096 → Agree T (stateIn l (searched part T budget)) (rayState (solidOf file) ray T)
     unfolding stateIn rayState
-    states-are T budget = fun-ext (λ t. fun-ext (λ len. served .states (ticks t len T)))
+    states-are T budget low high t len h = served .states (ticks t len T) (span-ranges (omega arith) h low high)
 
     -- a tick's bit, by the marks that the search finds, is its own
-    pub bits-are : (k budget t : ℕ) → t < 2 ^ k
+    pub bits-are : (k budget : ℕ) → 2 ^ k ≤ 2048 → (t : ℕ) → t < 2 ^ k
         → bitIn l (searched part (2 ^ k) budget) (spanMarks (stateIn l (searched part (2 ^ k) budget)) k 0) t ≡ bitOf (solidOf file) ray (2 ^ k) t
     unfolding bitIn middleIn bitOf middleSolid
-    bits-are k budget t h =
+    bits-are k budget few t h =
+        let agree = states-are (2 ^ k) budget (pow-pos k) (omega arith) in
+        let of-ray = span-ranges {s = middle t (2 ^ k)} (omega arith) (omega arith) (omega arith) (omega arith) in
         let mark : getD (spanMarks (stateIn l (searched part (2 ^ k) budget)) k 0) t emptyMark ≡ markOf (solidOf file) ray (2 ^ k) t
-        = ap (λ (st : ℕ → ℕ → ℕ). getD (spanMarks st k 0) t emptyMark) (states-are (2 ^ k) budget)
+        = ap (λ (ms : List ℕ). getD ms t emptyMark) (marks-within agree k 0 (omega arith))
         ∙ ray-marks-at (solidOf file) (accepted-ray file ray (ray-accepted e) .valid) ray k t emptyMark h in
-        ap₂ tickBit mark (ap₂ solidBy (served .iso-is) (served .bounds (middle t (2 ^ k))))
+        ap₂ tickBit mark (ap₂ solidBy (served .iso-is) (served .bounds (middle t (2 ^ k)) of-ray))
 
 -- ---- a cast that hands over T ticks' marks: in the states it finds an answer, and marks of every tick
 
@@ -109,15 +114,15 @@ module _ (file : List ℕ) (ray : Ray) (T : ℕ) (lent : List ℕ) (answer-in : 
   unfolding checkBuffer castAfter marksAfter
   marks-refused e = let v = answer-refused verdict file e in (rw v, rw v)
 
-  pub marks-made : {st : ℕ → ℕ → ℕ} (w : CastAnswer) (l : List ℕ) {part : Summary} → st ≡ states
+  pub marks-made : {st : ℕ → ℕ → ℕ} (w : CastAnswer) (l : List ℕ) {part : Summary} → answer-in st ≡ answer-in states → marks-in st ≡ marks-in states
       → checkBuffer file ray T (length lent) ≡ Accepted part → w ≡ answer-in st → l ≡ handed T w (marks-in st) ++ drop T lent → Made w l
   unfolding checkBuffer castAfter marksAfter
-  marks-made w l is e answer bytes =
+  marks-made w l same-answer same-marks e answer bytes =
       let v = answer-accepted verdict file e in
-      let a = answer ∙ ap answer-in is in (
+      let a = answer ∙ same-answer in (
         rw v a,
         rw v (bytes
-            ∙ ap (λ (st : ℕ → ℕ → ℕ). handed T w (marks-in st) ++ drop T lent) is
+            ∙ ap (λ (ms : List ℕ). handed T w ms ++ drop T lent) same-marks
             ∙ ap (λ (w : CastAnswer). handed T w (marks-in states) ++ drop T lent) a),
       )
 
@@ -144,10 +149,13 @@ module _ (file : List ℕ) (ray : Ray) (budget : ℕ) (lent : List ℕ) where
   pub cast-refused : {n : ℕ} → checkBuffer file ray (2 ^ exponent) (length lent) ≡ Refused n → CastPromised (cast.Refused n) lent
   cast-refused e = cast-promised _ lent (marks-refused file ray (2 ^ exponent) lent walk-in marks-of e)
 
-  pub cast-made : {st : ℕ → ℕ → ℕ} (w : CastAnswer) (l : List ℕ) {part : Summary} → st ≡ rayState (solidOf file) ray (2 ^ exponent)
+  pub cast-made : {st : ℕ → ℕ → ℕ} (w : CastAnswer) (l : List ℕ) {part : Summary}
+      → Agree (2 ^ exponent) st (rayState (solidOf file) ray (2 ^ exponent))
       → checkBuffer file ray (2 ^ exponent) (length lent) ≡ Accepted part → w ≡ walk st budget exponent 0 0
       → l ≡ handed (2 ^ exponent) w (spanMarks st exponent 0) ++ drop (2 ^ exponent) lent → CastPromised w l
-  cast-made w l is e answer bytes = cast-promised w l (marks-made file ray (2 ^ exponent) lent walk-in marks-of w l is e answer bytes)
+  cast-made w l agree e answer bytes =
+      cast-promised w l (marks-made file ray (2 ^ exponent) lent walk-in marks-of w l
+      (walk-within agree budget exponent 0 0 (omega arith)) (marks-within agree exponent 0 (omega arith)) e answer bytes)
 
 -- ---- first hit
 
@@ -163,12 +171,12 @@ module _ (file : List ℕ) (ray : Ray) (budget : ℕ) where
   unfolding checkHit firstHit hitAfter
   hit-refused e = let v = answer-refused (firstNo (hitQuestions file ray)) file e in hit-promised _ (rw v)
 
-  pub hit-made : {st : ℕ → ℕ → ℕ} (f : HitAnswer) {part : Summary} → st ≡ rayState (solidOf file) ray (2 ^ exponent)
+  pub hit-made : {st : ℕ → ℕ → ℕ} (f : HitAnswer) {part : Summary} → Agree (2 ^ exponent) st (rayState (solidOf file) ray (2 ^ exponent))
       → checkHit file ray ≡ Accepted part → f ≡ hit st budget exponent 0 0 → HitPromised f
   unfolding checkHit firstHit hitAfter
-  hit-made f is e answer =
+  hit-made f agree e answer =
       let v = answer-accepted (firstNo (hitQuestions file ray)) file e in
-      hit-promised f (rw v (answer ∙ ap (λ (st : ℕ → ℕ → ℕ). hit st budget exponent 0 0) is))
+      hit-promised f (rw v (answer ∙ hit-within agree budget exponent 0 0 (omega arith)))
 
 -- ---- column
 
@@ -187,13 +195,14 @@ module _ (file : List ℕ) (ray : Ray) (lent : List ℕ) where
       let v = answer-refused (firstNo (bufferQuestions file ray columnBytes (length lent))) file e in
       column-promised _ lent (rw v) (rw v)
 
-  pub column-made : {st : ℕ → ℕ → ℕ} (p : ℕ) (l : List ℕ) (bit : ℕ → ℕ) {part : Summary} → st ≡ rayState (solidOf file) ray (2 ^ exponent)
+  pub column-made : {st : ℕ → ℕ → ℕ} (p : ℕ) (l : List ℕ) (bit : ℕ → ℕ) {part : Summary}
+      → Agree (2 ^ exponent) st (rayState (solidOf file) ray (2 ^ exponent))
       → ((t : ℕ) → t < 2 ^ exponent → bit t ≡ bitOf (solidOf file) ray (2 ^ exponent) t)
       → checkBuffer file ray columnBytes (length lent) ≡ Accepted part → p ≡ probeCount st exponent 0
       → l ≡ packed bit columnBytes ++ drop columnBytes lent → ColumnPromised (column.Complete p) l
   unfolding checkBuffer columnAnswer columnAfter bitsLeft bitsAfter
-  column-made p l bit is same e probes bytes =
+  column-made p l bit agree same e probes bytes =
       let v = answer-accepted (firstNo (bufferQuestions file ray columnBytes (length lent))) file e in
-      column-promised _ l (rw v (ap column.Complete (probes ∙ ap (λ (st : ℕ → ℕ → ℕ). probeCount st exponent 0) is)))
+      column-promised _ l (rw v (ap column.Complete (probes ∙ count-within agree exponent 0 (omega arith))))
       (rw v (bytes
       ∙ ap (λ (m : List ℕ). m ++ drop columnBytes lent) (packed-same bit (bitOf (solidOf file) ray (2 ^ exponent)) columnBytes (λ t h. same t h))))

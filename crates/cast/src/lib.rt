@@ -1,6 +1,7 @@
 // Casts of a ray through a part file's tree: full cast, first hit and column, each from a file's bytes to its answer and its bytes
 // (document 01, "Calls", questions 12 to 14; document 02, P6).
 
+use bounds::HELD;
 use bounds::span_solid;
 use exact::both;
 use field::CROSSING;
@@ -114,8 +115,8 @@ fn probes_of(answer: CastAnswer) -> u32
 
 // ---- a column's bits
 
-// Whether the middle of tick t is solid.
-fn middle_solid(prepared: &[i64], s: Search, t: usize) -> bool
+// Whether the middle of tick t is solid. Here and below, the lent array `held` is working space.
+fn middle_solid(held: &mut [i64; HELD], prepared: &[i64], s: Search, t: usize) -> bool
     requires { ⌜ Searchable (now prepared) s ⌝ }
     requires { ⌜ (t < s .ticks) × (s .ticks ≤ 2048) ⌝ }
     ensures { λ r. ⌜ r ≡ middleIn (now (prepared .entry)) s t ⌝ }
@@ -126,11 +127,11 @@ fn middle_solid(prepared: &[i64], s: Search, t: usize) -> bool
         to: place,
         ticks: (2 * s.ticks) as u64,
     };
-    span_solid(prepared, s.part, span)
+    span_solid(held, prepared, s.part, span)
 }
 
 // The bit of tick t with this mark: 1 if it is inside, or crossing and its middle is solid.
-fn tick_bit(prepared: &[i64], s: Search, t: usize, mark: u8) -> u8
+fn tick_bit(held: &mut [i64; HELD], prepared: &[i64], s: Search, t: usize, mark: u8) -> u8
     requires { ⌜ Searchable (now prepared) s ⌝ }
     requires { ⌜ (t < s .ticks) × (s .ticks ≤ 2048) ⌝ }
     ensures { λ r. ⌜ (r ≡ tickBit mark (middleIn (now (prepared .entry)) s t)) × (r ≤ 1) ⌝ }
@@ -138,7 +139,7 @@ fn tick_bit(prepared: &[i64], s: Search, t: usize, mark: u8) -> u8
     if mark == INSIDE {
         return 1;
     }
-    if mark == CROSSING && middle_solid(prepared, s, t) {
+    if mark == CROSSING && middle_solid(held, prepared, s, t) {
         1
     } else {
         0
@@ -146,7 +147,7 @@ fn tick_bit(prepared: &[i64], s: Search, t: usize, mark: u8) -> u8
 }
 
 // The byte of the eight ticks from tick first on, the first one's bit lowest.
-fn pack_byte(prepared: &[i64], s: Search, marks: &[u8], first: usize) -> u8
+fn pack_byte(held: &mut [i64; HELD], prepared: &[i64], s: Search, marks: &[u8], first: usize) -> u8
     requires { ⌜ Searchable (now prepared) s ⌝ }
     requires { ⌜ (first + 8 ≤ s .ticks) × (s .ticks ≤ 2048) × (s .ticks ≤ length (now marks)) ⌝ }
     ensures { λ r. ⌜ r ≡ fromBits (bitIn (now (prepared .entry)) s (now (marks .entry))) first 8 ⌝ }
@@ -155,14 +156,14 @@ fn pack_byte(prepared: &[i64], s: Search, marks: &[u8], first: usize) -> u8
     let mut k = 0;
     while k < 8 {
         let t = first + (7 - k);
-        byte = 2 * byte + tick_bit(prepared, s, t, marks[t]);
+        byte = 2 * byte + tick_bit(held, prepared, s, t, marks[t]);
         k += 1;
     }
     byte
 }
 
 // The bytes of n times eight ticks.
-fn pack(prepared: &[i64], s: Search, marks: &[u8], n: usize, out: &mut [u8])
+fn pack(held: &mut [i64; HELD], prepared: &[i64], s: Search, marks: &[u8], n: usize, out: &mut [u8])
     requires { ⌜ Searchable (now prepared) s ⌝ }
     requires { ⌜ (8 * n ≤ s .ticks) × (s .ticks ≤ 2048) × (s .ticks ≤ length (now marks)) ⌝ }
     requires { ⌜ n ≤ length (now out) ⌝ }
@@ -171,13 +172,13 @@ fn pack(prepared: &[i64], s: Search, marks: &[u8], n: usize, out: &mut [u8])
 {
     let mut k = 0;
     while k < n {
-        out[k] = pack_byte(prepared, s, marks, 8 * k);
+        out[k] = pack_byte(held, prepared, s, marks, 8 * k);
         k += 1;
     }
 }
 
 // A whole ray's column; answers the probes.
-fn cast_column(out: &mut [u8], prepared: &[i64], s: Search) -> u32
+fn cast_column(out: &mut [u8], held: &mut [i64; HELD], prepared: &[i64], s: Search) -> u32
     requires { ⌜ Searchable (now prepared) s ⌝ }
     requires { ⌜ (s .ticks ≡ 2 ^ exponent) × (s .budget ≡ enough (2 ^ exponent)) ⌝ }
     requires { ⌜ columnBytes ≤ length (now out) ⌝ }
@@ -187,8 +188,8 @@ fn cast_column(out: &mut [u8], prepared: &[i64], s: Search) -> u32
         ++ drop columnBytes (now (out .entry)) ⌝ }
 {
     let mut marks = [NOT_LOOKED_AT; TICKS];
-    let answer = cast_ticks(&mut marks[..], prepared, s, LEVEL);
-    pack(prepared, s, &marks[..], COLUMN, out);
+    let answer = cast_ticks(&mut marks[..], held, prepared, s, LEVEL);
+    pack(held, prepared, s, &marks[..], COLUMN, out);
     probes_of(answer)
 }
 
@@ -201,6 +202,7 @@ pub fn full_cast(file: &[u8], ray: Ray, budget: u32, marks: &mut [u8]) -> CastAn
     ensures demands { λ r. ⌜ CastDemands (solidOf (now (file .entry))) ray exponent budget r (now (marks .exit)) ⌝ }
 {
     let mut prepared = [0i64; PREPARED];
+    let mut held = [0i64; HELD];
     let checked = load_buffer(file, ray, TICKS, marks.len(), &mut prepared);
     match checked {
         Checked::Refused(number) => CastAnswer::Refused(number),
@@ -210,7 +212,7 @@ pub fn full_cast(file: &[u8], ray: Ray, budget: u32, marks: &mut [u8]) -> CastAn
                 ticks: TICKS,
                 budget: budget,
             };
-            cast_ticks(marks, &prepared[..], s, LEVEL)
+            cast_ticks(marks, &mut held, &prepared[..], s, LEVEL)
         }
     }
 }
@@ -221,6 +223,7 @@ pub fn first_hit(file: &[u8], ray: Ray, budget: u32) -> HitAnswer
     ensures demands { λ r. ⌜ HitDemands (solidOf (now (file .entry))) ray exponent budget r ⌝ }
 {
     let mut prepared = [0i64; PREPARED];
+    let mut held = [0i64; HELD];
     let checked = load_hit(file, ray, &mut prepared);
     match checked {
         Checked::Refused(number) => HitAnswer::Refused(number),
@@ -230,7 +233,7 @@ pub fn first_hit(file: &[u8], ray: Ray, budget: u32) -> HitAnswer
                 ticks: TICKS,
                 budget: budget,
             };
-            hit_ticks(&prepared[..], s, LEVEL)
+            hit_ticks(&mut held, &prepared[..], s, LEVEL)
         }
     }
 }
@@ -242,6 +245,7 @@ pub fn column(file: &[u8], ray: Ray, bits: &mut [u8]) -> ColumnAnswer
     ensures demands { λ r. ⌜ ColumnDemands (solidOf (now (file .entry))) ray exponent r (now (bits .exit)) ⌝ }
 {
     let mut prepared = [0i64; PREPARED];
+    let mut held = [0i64; HELD];
     let checked = load_buffer(file, ray, COLUMN, bits.len(), &mut prepared);
     match checked {
         Checked::Refused(number) => ColumnAnswer::Refused(number),
@@ -252,7 +256,7 @@ pub fn column(file: &[u8], ray: Ray, bits: &mut [u8]) -> ColumnAnswer
                 budget: ENOUGH,
             };
             ColumnAnswer::Complete {
-                probes: cast_column(bits, &prepared[..], s),
+                probes: cast_column(bits, &mut held, &prepared[..], s),
             }
         }
     }

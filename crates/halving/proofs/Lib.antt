@@ -5,3 +5,4 @@ pub mod Cost
 pub mod Worst
 pub mod Handed
 pub mod Span
+pub mod Within

@@ -1,6 +1,7 @@
 // The halving search over the prepared numbers of a ray of two to any power ticks: the cast of the whole ray, and its first hit (document 01,
 // "Marks and probes", "Calls").
 
+use bounds::HELD;
 use bounds::span_state;
 use field::CROSSING;
 use field::EMPTY;
@@ -42,8 +43,8 @@ pub struct Search {
 
 // ---- the search
 
-// One probe: the state of the ticks from tick first on.
-pub fn probe(prepared: &[i64], s: Search, first: usize, len: usize) -> u8
+// One probe: the state of the ticks from tick first on. Here and below, the lent array `held` is a probe's working space.
+pub fn probe(held: &mut [i64; HELD], prepared: &[i64], s: Search, first: usize, len: usize) -> u8
     requires { ⌜ Searchable (now prepared) s ⌝ }
     requires { ⌜ first + len ≤ s .ticks ⌝ }
     ensures { λ r. ⌜ r ≡ stateIn (now (prepared .entry)) s first len ⌝ }
@@ -53,7 +54,7 @@ pub fn probe(prepared: &[i64], s: Search, first: usize, len: usize) -> u8
         to: (first + len) as u64,
         ticks: s.ticks as u64,
     };
-    span_state(prepared, s.part, span)
+    span_state(held, prepared, s.part, span)
 }
 
 // The same mark for len ticks from tick first on.
@@ -71,6 +72,7 @@ pub fn fill(marks: &mut [u8], first: usize, len: usize, mark: u8)
 // Casts the len ticks from tick first on, two to the power level, with some probes made before.
 fn cast_span(
     out: &mut [u8],
+    held: &mut [i64; HELD],
     prepared: &[i64],
     s: Search,
     first: usize,
@@ -91,16 +93,16 @@ fn cast_span(
             probes: made,
         };
     }
-    let state = probe(prepared, s, first, len);
+    let state = probe(held, prepared, s, first, len);
     if state != CROSSING || level == 0 {
         fill(out, first, len, state);
         return CastAnswer::Complete { probes: made + 1 };
     }
     let half = len / 2;
     let middle = first + half;
-    let left = cast_span(out, prepared, s, first, half, level - 1, made + 1);
+    let left = cast_span(out, held, prepared, s, first, half, level - 1, made + 1);
     if let CastAnswer::Complete { probes } = left {
-        return cast_span(out, prepared, s, middle, half, level - 1, probes);
+        return cast_span(out, held, prepared, s, middle, half, level - 1, probes);
     }
     left
 }
@@ -128,7 +130,13 @@ pub fn mark_rest(out: &mut [u8], ticks: usize, answer: CastAnswer)
 }
 
 // Casts a whole ray, of two to the power level ticks, and hands over every tick's mark, 3 for those not looked at.
-pub fn cast_ticks(out: &mut [u8], prepared: &[i64], s: Search, level: usize) -> CastAnswer
+pub fn cast_ticks(
+    out: &mut [u8],
+    held: &mut [i64; HELD],
+    prepared: &[i64],
+    s: Search,
+    level: usize,
+) -> CastAnswer
     requires { ⌜ Searchable (now prepared) s ⌝ }
     requires { ⌜ Halvable (s .ticks) 0 (s .ticks) level ⌝ }
     requires { ⌜ s .ticks ≤ length (now out) ⌝ }
@@ -136,13 +144,14 @@ pub fn cast_ticks(out: &mut [u8], prepared: &[i64], s: Search, level: usize) -> 
     ensures bytes { λ r. ⌜ now (out .exit)
         ≡ handed (s .ticks) r (spanMarks (stateIn (now (prepared .entry)) s) level 0) ++ drop (s .ticks) (now (out .entry)) ⌝ }
 {
-    let answer = cast_span(out, prepared, s, 0, s.ticks, level, 0);
+    let answer = cast_span(out, held, prepared, s, 0, s.ticks, level, 0);
     mark_rest(out, s.ticks, answer);
     answer
 }
 
 // The first hit in the len ticks from tick first on, two to the power level, with some probes made before.
 fn hit_span(
+    held: &mut [i64; HELD],
     prepared: &[i64],
     s: Search,
     first: usize,
@@ -160,7 +169,7 @@ fn hit_span(
             probes: made,
         };
     }
-    let state = probe(prepared, s, first, len);
+    let state = probe(held, prepared, s, first, len);
     if state == EMPTY {
         return HitAnswer::Clear { probes: made + 1 };
     }
@@ -173,18 +182,18 @@ fn hit_span(
     }
     let half = len / 2;
     let middle = first + half;
-    let left = hit_span(prepared, s, first, half, level - 1, made + 1);
+    let left = hit_span(held, prepared, s, first, half, level - 1, made + 1);
     if let HitAnswer::Clear { probes } = left {
-        return hit_span(prepared, s, middle, half, level - 1, probes);
+        return hit_span(held, prepared, s, middle, half, level - 1, probes);
     }
     left
 }
 
 // The first hit on a whole ray, of two to the power level ticks.
-pub fn hit_ticks(prepared: &[i64], s: Search, level: usize) -> HitAnswer
+pub fn hit_ticks(held: &mut [i64; HELD], prepared: &[i64], s: Search, level: usize) -> HitAnswer
     requires { ⌜ Searchable (now prepared) s ⌝ }
     requires { ⌜ Halvable (s .ticks) 0 (s .ticks) level ⌝ }
     ensures { λ r. ⌜ r ≡ hit (stateIn (now (prepared .entry)) s) (s .budget) level 0 0 ⌝ }
 {
-    hit_span(prepared, s, 0, s.ticks, level, 0)
+    hit_span(held, prepared, s, 0, s.ticks, level, 0)
 }

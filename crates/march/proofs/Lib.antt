@@ -2,4 +2,5 @@ pub mod Marching
 pub mod Worst
 pub mod Turns
 pub mod Demands
+pub mod Within
 pub mod Calls

@@ -1,5 +1,6 @@
 // The marching full cast (document 02, P5): candidates from tick 0 on, the first of 64 ticks, each decided, halved or one tick long.
 
+use bounds::HELD;
 use cast::TICKS;
 use cast::load_buffer;
 use field::CROSSING;
@@ -45,8 +46,15 @@ fn cut_to(first: usize, length: usize, ticks: usize) -> usize
     if length < left { length } else { left }
 }
 
-// Probes a candidate, marks its ticks if they are known then, and gives the next one.
-fn advance(out: &mut [u8], prepared: &[i64], s: Search, at: Candidate) -> Candidate
+// Probes a candidate, marks its ticks if they are known then, and gives the next one. Here and below, the lent array `held` is a probe's working
+// space.
+fn advance(
+    out: &mut [u8],
+    held: &mut [i64; HELD],
+    prepared: &[i64],
+    s: Search,
+    at: Candidate,
+) -> Candidate
     requires { ⌜ Searchable (now prepared) s ⌝ }
     requires { ⌜ Waiting (s .ticks) at ⌝ }
     requires { ⌜ s .ticks ≤ length (now out) ⌝ }
@@ -57,7 +65,7 @@ fn advance(out: &mut [u8], prepared: &[i64], s: Search, at: Candidate) -> Candid
     let first = at.first;
     let length = at.length;
     let len = cut_to(first, length, s.ticks);
-    let state = probe(prepared, s, first, len);
+    let state = probe(held, prepared, s, first, len);
     if state == CROSSING && 1 < len {
         return Candidate {
             first: first,
@@ -72,7 +80,7 @@ fn advance(out: &mut [u8], prepared: &[i64], s: Search, at: Candidate) -> Candid
 }
 
 // Marches through the ray as far as the budget goes, and marks the ticks that it looks at.
-fn march_on(out: &mut [u8], prepared: &[i64], s: Search) -> CastAnswer
+fn march_on(out: &mut [u8], held: &mut [i64; HELD], prepared: &[i64], s: Search) -> CastAnswer
     requires { ⌜ Searchable (now prepared) s ⌝ }
     requires { ⌜ s .ticks ≤ length (now out) ⌝ }
     ensures answer { λ r. ⌜ r ≡ march (stateIn (now (prepared .entry)) s) (s .ticks) (s .budget) ⌝ }
@@ -91,21 +99,21 @@ fn march_on(out: &mut [u8], prepared: &[i64], s: Search) -> CastAnswer
                 probes: made,
             };
         }
-        at = advance(out, prepared, s, at);
+        at = advance(out, held, prepared, s, at);
         made += 1;
     }
     CastAnswer::Complete { probes: made }
 }
 
 // Marches through a whole ray and hands over every tick's mark, 3 for those not looked at.
-fn march_ticks(out: &mut [u8], prepared: &[i64], s: Search) -> CastAnswer
+fn march_ticks(out: &mut [u8], held: &mut [i64; HELD], prepared: &[i64], s: Search) -> CastAnswer
     requires { ⌜ Searchable (now prepared) s ⌝ }
     requires { ⌜ s .ticks ≤ length (now out) ⌝ }
     ensures answer { λ r. ⌜ r ≡ march (stateIn (now (prepared .entry)) s) (s .ticks) (s .budget) ⌝ }
     ensures bytes { λ r. ⌜ now (out .exit)
         ≡ handed (s .ticks) r (marchMarks (stateIn (now (prepared .entry)) s) (s .ticks)) ++ drop (s .ticks) (now (out .entry)) ⌝ }
 {
-    let answer = march_on(out, prepared, s);
+    let answer = march_on(out, held, prepared, s);
     mark_rest(out, s.ticks, answer);
     answer
 }
@@ -119,6 +127,7 @@ pub fn marching_cast(file: &[u8], ray: Ray, budget: u32, marks: &mut [u8]) -> Ca
     ensures demands { λ r. ⌜ MarchDemands (solidOf (now (file .entry))) ray exponent budget r (now (marks .exit)) ⌝ }
 {
     let mut prepared = [0i64; PREPARED];
+    let mut held = [0i64; HELD];
     let checked = load_buffer(file, ray, TICKS, marks.len(), &mut prepared);
     match checked {
         Checked::Refused(number) => CastAnswer::Refused(number),
@@ -128,7 +137,7 @@ pub fn marching_cast(file: &[u8], ray: Ray, budget: u32, marks: &mut [u8]) -> Ca
                 ticks: TICKS,
                 budget: budget,
             };
-            march_ticks(marks, &prepared[..], s)
+            march_ticks(marks, &mut held, &prepared[..], s)
         }
     }
 }

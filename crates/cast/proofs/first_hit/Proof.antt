@@ -20,13 +20,13 @@ first-hit-spec =
     (λ c κs. search needs)
     (λ c. search needs)
     (λ c. search needs)
-    (λ c. let k = c .before .before in prepared-long _ _ _ _ refl (k .before .before .load-hit .ensures .1) (accepted k))
-    (λ c κs. let k = c .before .before in (
+    (λ c. let k = c .before .before .before in prepared-long _ _ _ _ refl (k .before .before .load-hit .ensures .1) (accepted k))
+    (λ c κs. let k = c .before .before .before in (
       searchable _ _ _ _ refl (k .before .before .load-hit .ensures .1) (accepted k) _ _ (omega arith) (omega arith),
       whole exponent,
     ))
     (λ c. hit-refused _ _ _ (sym (c .before .before .before .load-hit .ensures .0) ∙ c .before .checked .given .1))
     (λ c.
-    let k = c .before .before .before in
+    let k = c .before .before .before .before in
     let l = k .before .before .load-hit in
-    hit-made _ _ _ _ (states-are _ _ _ _ refl (l .ensures .1) (accepted k) _ _) (accepted k) (c .hit-ticks .ensures)))
+    hit-made _ _ _ _ (states-are _ _ _ _ refl (l .ensures .1) (accepted k) _ _ (omega arith) (omega arith)) (accepted k) (c .hit-ticks .ensures)))

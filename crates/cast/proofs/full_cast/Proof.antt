@@ -29,15 +29,16 @@ full-cast-spec =
     (λ c κs. search needs)
     (λ c. search needs)
     (λ c. search needs)
-    (λ c. let k = c .before .before .before in prepared-long _ _ _ _ refl (k .before .before .load-buffer .ensures .1) (accepted k))
-    (λ c κs. let k = c .before .before .before in (
+    (λ c. let k = c .before .before .before .before in prepared-long _ _ _ _ refl (k .before .before .load-buffer .ensures .1) (accepted k))
+    (λ c κs. let k = c .before .before .before .before in (
       searchable _ _ _ _ refl (k .before .before .load-buffer .ensures .1) (accepted k) _ _ (omega arith) (omega arith),
       (whole exponent, room-enough _ _ _ _ (buffer k)),
     ))
     (λ c. cast-refused _ _ _ _ (sym (c .before .before .before .load-buffer .ensures .0) ∙ c .before .checked .given .1))
     (λ c. search needs)
     (λ c.
-    let k = c .before .before .before .before .before .before in
+    let k = c .before .before .before .before .before .before .before in
     let l = k .before .before .load-buffer in
     let w = c .before .before .cast-ticks in
-    cast-made _ _ _ _ _ _ (states-are _ _ _ _ refl (l .ensures .1) (accepted k) _ _) (buffer k) (w .ensures .0) (w .ensures .1)))
+    cast-made _ _ _ _ _ _ (states-are _ _ _ _ refl (l .ensures .1) (accepted k) _ _ (omega arith) (omega arith)) (buffer k)
+    (w .ensures .0) (w .ensures .1)))

@@ -11,10 +11,10 @@ use Rattle.cast.proofs.pack.Statement.{statement}
 use Rattle.cast.proofs.pack.Tie as tie
 
 abbrev Inv-loop : tie.InvT-loop
-Inv-loop prepared s marks n out₀ k₀ out k = (k ≤ n) × (out ≡ sets out₀ 0 (packed (bitIn prepared s marks) k)) × (length out ≡ length out₀)
+Inv-loop held₀ prepared s marks n out₀ k₀ held out k = (k ≤ n) × (out ≡ sets out₀ 0 (packed (bitIn prepared s marks) k)) × (length out ≡ length out₀)
 
 abbrev μ-loop : tie.MeasureT-loop
-μ-loop prepared s marks n out₀ k₀ out k = n - k
+μ-loop held₀ prepared s marks n out₀ k₀ held out k = n - k
 
 pub pack-spec : {M : Type 1} → statement M
 unfolding packed
@@ -25,13 +25,13 @@ pack-spec =
     μ-loop
     (λ c. (omega arith, refl, refl))
     (λ c. omega arith)
-    (λ c κs. let p = c .before .before .before .before .pre in (p .0, (omega arith, p .1 .0 .1, p .1 .0 .2)))
+    (λ c κs. let p = c .before .before .before .before .before .pre in (p .0, (omega arith, p .1 .0 .1, p .1 .0 .2)))
     (λ c. omega arith)
     (λ c. omega arith)
     (λ c. omega arith)
     (λ c.
-    let l = c .before .before .loop in
-    let a = c .before .before .before .before .before .args in (
+    let l = c .before .before .before .loop in
+    let a = c .before .before .before .before .before .before .args in (
       omega arith,
       rw (l .inv .1, c .pack-byte .ensures) (packed-more (bitIn (a .prepared .now) (a .s) (a .marks .now)) (a .out .now) (l .k)),
       length-set (l .out) (l .k) (c .pack-byte .result) ∙ l .inv .2,

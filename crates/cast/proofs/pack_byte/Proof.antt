@@ -9,11 +9,11 @@ use Rattle.cast.proofs.pack_byte.Statement.{statement}
 use Rattle.cast.proofs.pack_byte.Tie as tie
 
 abbrev Inv-loop : tie.InvT-loop
-Inv-loop prepared s marks first byte₀ k₀ byte k =
+Inv-loop held₀ prepared s marks first byte₀ k₀ held byte k =
     (k ≤ 8) × (byte < 2 ^ k) × (byte ≡ fromBits (bitIn prepared s marks) (first + (8 - k)) k)
 
 abbrev μ-loop : tie.MeasureT-loop
-μ-loop prepared s marks first byte₀ k₀ byte k = 8 - k
+μ-loop held₀ prepared s marks first byte₀ k₀ held byte k = 8 - k
 
 -- room for one more bit
 room : (c : tie.In-loop Inv-loop μ-loop) → 2 * c .before .loop .byte + 1 < 256
@@ -24,8 +24,8 @@ room c =
 loop-again : tie.Need-loop-again Inv-loop μ-loop
 unfolding fromBits bitIn
 loop-again c =
-    let l = c .before .before .before .loop in
-    let a = c .before .before .before .before .before .args in
+    let l = c .before .before .before .before .loop in
+    let a = c .before .before .before .before .before .before .args in
     let b = c .tick-bit .ensures in
     let bit = bitIn (a .prepared .now) (a .s) (a .marks .now) in
     let here : a .first + (8 - suc (l .k)) ≡ a .first + (7 - l .k) = omega arith in
@@ -47,8 +47,8 @@ pack-byte-spec =
     (λ c. omega arith)
     (λ c. omega (arith, room c))
     (λ c. omega arith)
-    (λ c κs. let p = c .before .before .before .before .pre in (p .0, (omega arith, p .1 .1)))
-    (λ c. omega (arith, room (c .before .before), c .tick-bit .ensures .1))
+    (λ c κs. let p = c .before .before .before .before .before .pre in (p .0, (omega arith, p .1 .1)))
+    (λ c. omega (arith, room (c .before .before .before), c .tick-bit .ensures .1))
     (λ c. omega arith)
     (λ c. omega arith)
     loop-again

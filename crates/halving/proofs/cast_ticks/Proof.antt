@@ -10,7 +10,7 @@ use Rattle.halving.proofs.cast_ticks.Tie as tie
 
 -- from where the rest is marked back to the start
 abbrev start : tie.After-mark-rest-arg → tie.Start
-start c = c .before .before .before .before .before .before
+start c = c .before .before .before .before .before .before .before
 
 answer : (c : tie.After-mark-rest-arg) → let a = start c .args in
     c .before .before .before .cast-span .result ≡ walk (stateIn (a .prepared .now) (a .s)) (a .s .budget) (a .level) 0 0

@@ -1,6 +1,7 @@
 use native.Mathlib.Omega.{arith}
 use borrow.Author.Needs.{needs}
 use Rattle.halving.specs.Search.{stateIn}
+use Rattle.halving.proofs.Within.{span-ranges}
 use Rattle.halving.proofs.probe.Statement.{statement}
 use Rattle.halving.proofs.probe.Tie as tie
 
@@ -11,7 +12,6 @@ probe-spec =
     (tie.spec
     (λ c. search needs)
     (λ c κs.
-    let r = c .pre .0 in
-    let h = r .ticks-high in
-    r .probe _ (record { from-high = omega arith; to-high = omega arith; ticks-low = r .ticks-low; ticks-high = h }))
+    let p = c .before .pre in
+    p .0 .probe _ (span-ranges (omega arith) (omega arith) (p .0 .ticks-low) (p .0 .ticks-high)))
     (λ c. c .span-state .ensures))

@@ -17,7 +17,7 @@ advance-spec =
     -- undecided and longer than one tick
     (λ c.
     let p = c .before .before in
-    let k = p .before in
+    let k = p .before .before in
     let a = k .before .before .args in
     is-halved (stateIn (a .prepared .now) (a .s)) (a .s .ticks) (a .at) (k .cut-to .result) (p .probe .result)
     (k .cut-to .ensures) (p .probe .ensures) (a .out .now) (c .before .if1 .taken) (omega (arith, ltb-true)))
@@ -30,7 +30,7 @@ advance-spec =
     let f = c .before .before in
     let j = f .before .before in
     let p = j .before in
-    let k = p .before in
+    let k = p .before .before in
     let s = k .before .before in
     let a = s .args in
     let w = s .pre .1 .0 in

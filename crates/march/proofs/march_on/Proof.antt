@@ -8,10 +8,10 @@ use Rattle.march.proofs.march_on.Statement.{statement}
 use Rattle.march.proofs.march_on.Tie as tie
 
 abbrev Inv-loop : tie.InvT-loop
-Inv-loop out₀ prepared s at₀ made₀ out at made = Left (stateIn prepared s) (s .ticks) (s .budget) out₀ out at made
+Inv-loop out₀ held₀ prepared s at₀ made₀ out held at made = Left (stateIn prepared s) (s .ticks) (s .budget) out₀ out at made
 
 abbrev μ-loop : tie.MeasureT-loop
-μ-loop out₀ prepared s at₀ made₀ out at made = s .budget - made
+μ-loop out₀ held₀ prepared s at₀ made₀ out held at made = s .budget - made
 
 pub march-on-spec : {M : Type 1} → statement M
 march-on-spec =
@@ -28,14 +28,14 @@ march-on-spec =
     is-spent (stateIn (a .prepared .now) (a .s)) (a .s .ticks) (a .s .budget) (a .out .now) (l .out) (l .at) (l .made) (l .inv)
     (omega arith) (omega arith))
     (λ c κs.
-    let t = c .before .before .before in
+    let t = c .before .before .before .before in
     let l = t .before .before .before .loop in
     let s = t .before .before .before .before .before in
     (s .pre .0, (record { within = omega arith; some = l .inv .some }, omega (arith, s .pre .1, l .inv .size))))
     (λ c. omega arith)
     (λ c. omega arith)
     (λ c.
-    let e = c .before .before .before .before in
+    let e = c .before .before .before .before .before in
     let t = e .before .before in
     let l = t .before .before .before .loop in
     let a = t .before .before .before .before .before .args in

@@ -30,15 +30,16 @@ marching-cast-spec =
     (λ c κs. search needs)
     (λ c. search needs)
     (λ c. search needs)
-    (λ c. let k = c .before .before .before in prepared-long _ _ _ _ refl (k .before .before .load-buffer .ensures .1) (accepted k))
-    (λ c κs. let k = c .before .before .before in (
+    (λ c. let k = c .before .before .before .before in prepared-long _ _ _ _ refl (k .before .before .load-buffer .ensures .1) (accepted k))
+    (λ c κs. let k = c .before .before .before .before in (
       searchable _ _ _ _ refl (k .before .before .load-buffer .ensures .1) (accepted k) _ _ (omega arith) (omega arith),
       room-enough _ _ _ _ (buffer k),
     ))
     (λ c. march-refused _ _ _ _ (sym (c .before .before .before .load-buffer .ensures .0) ∙ c .before .checked .given .1))
     (λ c. search needs)
     (λ c.
-    let k = c .before .before .before .before .before .before in
+    let k = c .before .before .before .before .before .before .before in
     let l = k .before .before .load-buffer in
     let w = c .before .before .march-ticks in
-    march-made _ _ _ _ _ _ (states-are _ _ _ _ refl (l .ensures .1) (accepted k) _ _) (buffer k) (w .ensures .0) (w .ensures .1)))
+    march-made _ _ _ _ _ _ (states-are _ _ _ _ refl (l .ensures .1) (accepted k) _ _ (omega arith) (omega arith)) (buffer k)
+    (w .ensures .0) (w .ensures .1)))
