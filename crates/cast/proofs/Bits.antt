@@ -1,6 +1,6 @@
--- Ticks' bits packed into bytes: bit t mod 8 of byte t/8 is that of tick t (`packed-bit`). The number of two runs of ticks is that of the first plus
--- the second's times a power of two (`from-append`), and the bytes of two runs of bytes are joined (`packed-append`); so are equal bits (`from-all`,
--- `packed-all`).
+-- Ticks' bits packed into bytes: bit t mod 8 of byte t/8 is that of tick t (`packed-bit`). Of one run of ticks after another, the second's number
+-- counts 2^n times (`from-append`), and its bytes follow (`packed-append`). Of bits that are all b, the number is b (2^n − 1) (`from-all`), and each
+-- byte 255 b (`packed-all`).
 use Prim.Native.Nat.{ℕ, zero, suc, _+_, _*_, _/_, _%_, _^_, _≤_, _<_}
 use native.Mathlib.Nat.{zero-add, add-zero, add-suc, suc-add, mul-assoc, pow-suc, pow-succ', two-pow-succ, div-div-eq-div-mul, div-add-mod}
 use native.Mathlib.Numerals.{add-one}

@@ -69,14 +69,14 @@ middleIn l s t = solidBy (s .part .iso) (preparedBounds (s .part) l (middle t (s
 unfoldable pub bitIn : List ℤ → Search → List ℕ → ℕ → ℕ
 bitIn l s marks t = tickBit (getD marks t emptyMark) (middleIn l s t)
 
--- ---- for the search, over any state of spans and any middles
+-- ---- for the search, over any state of spans, and any choice of the ticks whose middles are solid
 
-module _ (state : ℕ → ℕ → ℕ) (middle : ℕ → Bool) where
+module _ (state : ℕ → ℕ → ℕ) (solid : ℕ → Bool) where
   -- the bit of tick i + t, by the marks of the 2^k ticks from tick i on
   unfoldable pub spanBit : ℕ → ℕ → ℕ → ℕ
-  spanBit k i t = tickBit (getD (spanMarks state k i) t emptyMark) (middle (i + t))
+  spanBit k i t = tickBit (getD (spanMarks state k i) t emptyMark) (solid (i + t))
 
-  -- what a cast of those n ticks gives
+  -- what a cast of these n ticks gives: their bits, a number of n binary digits, and the probes
   pub record SpanBits (k i n : ℕ) (r : ByteCast) : Type 0 where
     pub bits : r .bits ≡ fromBits (spanBit k i) 0 n
     pub room : r .bits < 2 ^ n
