@@ -1,6 +1,7 @@
 -- A column (document 01, "Calls"; document 02, P6): "bit t mod 8 (lowest is 0) of byte t/8 (rounded down) is 1 if tick t is" solid, "else 0". Inside
 -- it is, empty it is not, and "A crossing tick is solid if the low and high bounds at its exact middle add up to at least 2 × iso × 2³²."
-use Prim.Native.Nat.{ℕ, zero, suc, _+_, _*_}
+use Prim.Native.Nat.{ℕ, zero, suc, _+_, _*_, _^_, _<_}
+use mathlib.Core.Path.{_≡_}
 use mathlib.Core.List.{List, [], _∷_, _++_}
 use mathlib.Core.Bool.{Bool, cond, _&&_, _||_}
 use lib.Dec.{eqb}
@@ -13,8 +14,10 @@ use Rattle.field.specs.Bounds.{emptyMark, crossingMark, insideMark, treeBounds,
 use Rattle.field.specs.Marks.{markOf}
 use Rattle.bounds.specs.Probe.{preparedBounds}
 use Rattle.halving.specs.declared.Search.{Search}
+use Rattle.halving.specs.Halving.{probeCount, spanMarks}
 use Rattle.cast.specs.declared.ColumnAnswer.{ColumnAnswer}
 use Rattle.cast.specs.declared.ColumnAnswer.the-variants.{Refused, Complete}
+use Rattle.cast.specs.declared.ByteCast.{ByteCast}
 
 -- 128 bytes for 1,024 ticks
 abbrev pub columnBytes : ℕ
@@ -65,3 +68,16 @@ middleIn l s t = solidBy (s .part .iso) (preparedBounds (s .part) l (middle t (s
 
 unfoldable pub bitIn : List ℤ → Search → List ℕ → ℕ → ℕ
 bitIn l s marks t = tickBit (getD marks t emptyMark) (middleIn l s t)
+
+-- ---- for the search, over any state of spans, and any choice of the ticks whose middles are solid
+
+module _ (state : ℕ → ℕ → ℕ) (solid : ℕ → Bool) where
+  -- the bit of tick i + t, by the marks of the 2^k ticks from tick i on
+  unfoldable pub spanBit : ℕ → ℕ → ℕ → ℕ
+  spanBit k i t = tickBit (getD (spanMarks state k i) t emptyMark) (solid (i + t))
+
+  -- what a cast of these n ticks gives: their bits, a number of n binary digits, and the probes
+  pub record SpanBits (k i n : ℕ) (r : ByteCast) : Type 0 where
+    pub bits : r .bits ≡ fromBits (spanBit k i) 0 n
+    pub room : r .bits < 2 ^ n
+    pub probes : r .probes ≡ probeCount state k i

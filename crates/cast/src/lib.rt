@@ -6,7 +6,6 @@ use bounds::span_solid;
 use exact::both;
 use field::CROSSING;
 use field::INSIDE;
-use field::NOT_LOOKED_AT;
 use field::Position;
 use field::Ray;
 use field::Span;
@@ -14,20 +13,23 @@ use halving::CastAnswer;
 use halving::HitAnswer;
 use halving::Search;
 use halving::cast_ticks;
+use halving::fill;
 use halving::hit_ticks;
+use halving::probe;
 use loading::PREPARED;
 use loading::load_ray;
 use part::Checked;
 ghost use mathlib.Core.Path.{_≡_};
 ghost use mathlib.Core.List.{_++_};
-ghost use Prim.Native.Nat.{_+_, _*_, _^_, _≤_, _<_};
+ghost use Prim.Native.Nat.{_+_, _*_, _/_, _^_, _≤_, _<_};
 ghost use lib.ListN.{length, drop};
+ghost use lib.Seq.{sets};
 ghost use Rattle.field.specs.Solid.{solidOf};
 ghost use Rattle.loading.specs.Loading.{loadedRay};
-ghost use Rattle.halving.specs.Halving.{probeCount, spanMarks, castProbes};
-ghost use Rattle.halving.specs.Search.{Searchable, stateIn};
+ghost use Rattle.halving.specs.Halving.{probeCount, spanMarks};
+ghost use Rattle.halving.specs.Search.{Searchable, Halvable, stateIn};
 ghost use Rattle.cast.specs.Ticks.{exponent, enough};
-ghost use Rattle.cast.specs.Column.{columnBytes, middleIn, tickBit, bitIn, fromBits, packed};
+ghost use Rattle.cast.specs.Column.{columnBytes, middleIn, tickBit, bitIn, packed, spanBit, SpanBits};
 ghost use Rattle.cast.specs.Questions.{samePosition, endsDiffer, alsoAsked, checkHit, checkBuffer};
 ghost use Rattle.cast.specs.Calls.{fullCast, marksLeft, firstHit, columnAnswer, bitsLeft};
 ghost use Rattle.cast.specs.Demands.{CastDemands, HitDemands, ColumnDemands};
@@ -40,13 +42,21 @@ pub const LEVEL: usize = 10;
 // A budget that is always enough for as many.
 pub const ENOUGH: u32 = 2047;
 
-// A column's bytes, of eight ticks each.
+// A column's bytes, of eight ticks each: two to the power COLUMN_LEVEL.
 pub const COLUMN: usize = 128;
+
+const COLUMN_LEVEL: usize = 7;
 
 // What a column answers: the refusal number, or the probes.
 pub enum ColumnAnswer {
     Refused(u32),
     Complete { probes: u32 },
+}
+
+// What a cast of at most eight ticks gives: their bits, the first one's lowest, and the probes.
+struct ByteCast {
+    bits: u8,
+    probes: u32,
 }
 
 // ---- the questions
@@ -102,17 +112,6 @@ pub fn load_buffer(
     also_ask(answer, 14, need <= room)
 }
 
-// The probes that a cast made.
-fn probes_of(answer: CastAnswer) -> u32
-    ensures { λ r. ⌜ r ≡ castProbes answer ⌝ }
-{
-    match answer {
-        CastAnswer::Refused(_) => 0,
-        CastAnswer::Complete { probes } => probes,
-        CastAnswer::Spent { tick: _, probes } => probes,
-    }
-}
-
 // ---- a column's bits
 
 // Whether the middle of tick t is solid. Here and below, the lent array `held` is working space.
@@ -130,51 +129,92 @@ fn middle_solid(held: &mut [i64; HELD], prepared: &[i64], s: Search, t: usize) -
     span_solid(held, prepared, s.part, span)
 }
 
-// The bit of tick t with this mark: 1 if it is inside, or crossing and its middle is solid.
-fn tick_bit(held: &mut [i64; HELD], prepared: &[i64], s: Search, t: usize, mark: u8) -> u8
+// Eight bits, each that of tick t with this mark: 1 if it is inside, or crossing and its middle is solid.
+fn tick_byte(held: &mut [i64; HELD], prepared: &[i64], s: Search, t: usize, mark: u8) -> u8
     requires { ⌜ Searchable (now prepared) s ⌝ }
     requires { ⌜ (t < s .ticks) × (s .ticks ≤ 2048) ⌝ }
-    ensures { λ r. ⌜ (r ≡ tickBit mark (middleIn (now (prepared .entry)) s t)) × (r ≤ 1) ⌝ }
+    ensures { λ r. ⌜ r ≡ 255 * tickBit mark (middleIn (now (prepared .entry)) s t) ⌝ }
 {
     if mark == INSIDE {
-        return 1;
+        return 255;
     }
     if mark == CROSSING && middle_solid(held, prepared, s, t) {
-        1
+        255
     } else {
         0
     }
 }
 
-// The byte of the eight ticks from tick first on, the first one's bit lowest.
-fn pack_byte(held: &mut [i64; HELD], prepared: &[i64], s: Search, marks: &[u8], first: usize) -> u8
-    requires { ⌜ Searchable (now prepared) s ⌝ }
-    requires { ⌜ (first + 8 ≤ s .ticks) × (s .ticks ≤ 2048) × (s .ticks ≤ length (now marks)) ⌝ }
-    ensures { λ r. ⌜ r ≡ fromBits (bitIn (now (prepared .entry)) s (now (marks .entry))) first 8 ⌝ }
+// The bits of n ticks and of n more after them.
+fn joined(low: u8, high: u8, n: usize) -> u8
+    requires { ⌜ (n ≤ 4) × (low < 2 ^ n) × (high < 2 ^ n) ⌝ }
+    ensures { λ r. ⌜ r ≡ low + high * 2 ^ n ⌝ }
 {
-    let mut byte: u8 = 0;
-    let mut k = 0;
-    while k < 8 {
-        let t = first + (7 - k);
-        byte = 2 * byte + tick_bit(held, prepared, s, t, marks[t]);
-        k += 1;
-    }
-    byte
+    low + (high << n)
 }
 
-// The bytes of n times eight ticks.
-fn pack(held: &mut [i64; HELD], prepared: &[i64], s: Search, marks: &[u8], n: usize, out: &mut [u8])
+// Casts the len ticks from tick first on, two to the power level and at most eight.
+fn byte_span(
+    held: &mut [i64; HELD],
+    prepared: &[i64],
+    s: Search,
+    first: usize,
+    len: usize,
+    level: usize,
+) -> ByteCast
     requires { ⌜ Searchable (now prepared) s ⌝ }
-    requires { ⌜ (8 * n ≤ s .ticks) × (s .ticks ≤ 2048) × (s .ticks ≤ length (now marks)) ⌝ }
-    requires { ⌜ n ≤ length (now out) ⌝ }
-    ensures { λ _. ⌜ now (out .exit)
-        ≡ packed (bitIn (now (prepared .entry)) s (now (marks .entry))) n ++ drop n (now (out .entry)) ⌝ }
+    requires { ⌜ Halvable (s .ticks) first len level ⌝ }
+    requires { ⌜ (level ≤ 3) × (s .ticks ≤ 2048) ⌝ }
+    ensures { λ r. ⌜ SpanBits (stateIn (now (prepared .entry)) s) (middleIn (now (prepared .entry)) s) level first len r ⌝ }
 {
-    let mut k = 0;
-    while k < n {
-        out[k] = pack_byte(held, prepared, s, marks, 8 * k);
-        k += 1;
+    let state = probe(held, prepared, s, first, len);
+    if state != CROSSING || level == 0 {
+        return ByteCast {
+            bits: tick_byte(held, prepared, s, first, state) >> (8 - len),
+            probes: 1,
+        };
     }
+    let half = len / 2;
+    let left = byte_span(held, prepared, s, first, half, level - 1);
+    let right = byte_span(held, prepared, s, first + half, half, level - 1);
+    ByteCast {
+        bits: joined(left.bits, right.bits, half),
+        probes: 1 + left.probes + right.probes,
+    }
+}
+
+// Casts the ticks of the len bytes from byte first on, two to the power level; answers the probes.
+fn column_span(
+    out: &mut [u8],
+    held: &mut [i64; HELD],
+    prepared: &[i64],
+    s: Search,
+    first: usize,
+    len: usize,
+    level: usize,
+) -> u32
+    requires { ⌜ Searchable (now prepared) s ⌝ }
+    requires { ⌜ Halvable (s .ticks / 8) first len level ⌝ }
+    requires { ⌜ (s .ticks ≤ 2048) × (first + len ≤ length (now out)) ⌝ }
+    ensures probes { λ r. ⌜ r ≡ probeCount (stateIn (now (prepared .entry)) s) (level + 3) (8 * first) ⌝ }
+    ensures bytes { λ _. ⌜ now (out .exit) ≡ sets (now (out .entry)) first
+        (packed (spanBit (stateIn (now (prepared .entry)) s) (middleIn (now (prepared .entry)) s) (level + 3) (8 * first)) len) ⌝ }
+{
+    let tick = 8 * first;
+    if level == 0 {
+        let byte = byte_span(held, prepared, s, tick, 8, 3);
+        out[first] = byte.bits;
+        return byte.probes;
+    }
+    let state = probe(held, prepared, s, tick, 8 * len);
+    if state != CROSSING {
+        fill(out, first, len, tick_byte(held, prepared, s, tick, state));
+        return 1;
+    }
+    let half = len / 2;
+    let left = column_span(out, held, prepared, s, first, half, level - 1);
+    let right = column_span(out, held, prepared, s, first + half, half, level - 1);
+    1 + left + right
 }
 
 // A whole ray's column; answers the probes.
@@ -187,10 +227,7 @@ fn cast_column(out: &mut [u8], held: &mut [i64; HELD], prepared: &[i64], s: Sear
         ≡ packed (bitIn (now (prepared .entry)) s (spanMarks (stateIn (now (prepared .entry)) s) exponent 0)) columnBytes
         ++ drop columnBytes (now (out .entry)) ⌝ }
 {
-    let mut marks = [NOT_LOOKED_AT; TICKS];
-    let answer = cast_ticks(&mut marks[..], held, prepared, s, LEVEL);
-    pack(held, prepared, s, &marks[..], COLUMN, out);
-    probes_of(answer)
+    column_span(out, held, prepared, s, 0, COLUMN, COLUMN_LEVEL)
 }
 
 // ---- the calls

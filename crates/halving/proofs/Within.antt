@@ -5,7 +5,7 @@ use mathlib.Core.Path.{_≡_, refl, ap, fun-ext}
 use mathlib.Core.List.{[], _∷_}
 use native.Mathlib.Omega.{arith, pow-step}
 use Rattle.field.specs.declared.Span.{Span}
-use Rattle.bounds.specs.Probe.{SpanRanges}
+use Rattle.points.specs.Ranges.{SpanRanges}
 use Rattle.halving.specs.Halving.{probeCount, spanMarks, walk}
 use Rattle.halving.specs.FirstHit.{hit}
 

@@ -6,7 +6,8 @@ use lib.IntN.{ℤ}
 use Rattle.field.specs.declared.Span.{Span}
 use Rattle.field.specs.Ray.{ticks}
 use Rattle.field.specs.Bounds.{stateOf}
-use Rattle.bounds.specs.Probe.{SpanRanges, preparedBounds, Probe}
+use Rattle.points.specs.Ranges.{SpanRanges}
+use Rattle.bounds.specs.Probe.{preparedBounds, Probe}
 use Rattle.halving.specs.declared.Search.{Search}
 
 -- the state of the n ticks from tick i on, from the prepared numbers

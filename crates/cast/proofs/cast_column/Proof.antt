@@ -1,34 +1,34 @@
--- `cast_column`: the cast is complete, so its probes are the ray's and the marks that are packed are all the ray's.
-use mathlib.Core.Path.{_∙_}
+-- `cast_column`: the search of all bytes, whose ticks' bits are counted from tick 0 on.
+use mathlib.Core.Path.{refl, ap}
+use native.Mathlib.Nat.{zero-add}
 use native.Mathlib.Omega.{arith}
+use Prim.Native.Nat.{ℕ}
 use borrow.Author.Needs.{needs}
+use lib.ListN.{getD}
+use Rattle.field.specs.Bounds.{emptyMark}
+use Rattle.halving.specs.Halving.{spanMarks}
 use Rattle.halving.specs.Search.{stateIn}
-use Rattle.cast.proofs.Columns.{all-probes, all-marks}
+use Rattle.cast.specs.Ticks.{exponent}
+use Rattle.cast.specs.Column.{middleIn, tickBit, bitIn, spanBit}
+use Rattle.cast.proofs.Columns.{column-whole}
 use Rattle.cast.proofs.cast_column.Statement.{statement}
 use Rattle.cast.proofs.cast_column.Tie as tie
 
-returns : tie.Need-returns
-returns c =
-    let k = c .before .before .before .before .before .before .before .before in
-    let w = k .cast-ticks in
-    let s = k .before .before .before .before in
-    let a = s .args in
-    let st = stateIn (a .prepared .now) (a .s) in (
-      c .probes-of .ensures ∙ all-probes st (s .pre .1 .0 .1) (s .pre .1 .0 .0) (w .result) (w .ensures .0),
-      rw (all-marks st (s .pre .1 .0 .1) (s .pre .1 .0 .0) (w .result) (w .ensures .0) _ (w .ensures .1))
-          at (c .before .before .before .pack .ensures),
-    )
-
 pub cast-column-spec : {M : Type 1} → statement M
+unfolding bitIn spanBit
 cast-column-spec =
     tie.close
     (tie.spec
+    (λ c κs. let p = c .before .before .pre in (p .0, (record { size = refl; end = omega arith }, (omega arith, p .1 .1))))
     (λ c. search needs)
-    (λ c κs. search needs)
-    (λ c. search needs)
-    (λ c κs.
-    let p = c .before .before .before .before .before .before .before .before .pre in
-    (p .0, ((omega (arith, p .1 .0 .0), omega (arith, p .1 .0 .0), omega (arith, p .1 .0 .0)), p .1 .1)))
-    (λ c κs. search needs)
-    (λ c. search needs)
-    returns)
+    (λ c.
+    let k = c .before .before in
+    let s = k .before .before .before in
+    let a = s .args in
+    let st = stateIn (a .prepared .now) (a .s) in
+    let mid = middleIn (a .prepared .now) (a .s) in (
+      k .column-span .ensures .0,
+      column-whole st mid exponent (bitIn (a .prepared .now) (a .s) (spanMarks st exponent 0))
+          (λ t. ap (λ (x : ℕ). tickBit (getD (spanMarks st exponent 0) t emptyMark) (mid x)) (zero-add t))
+          (a .out .now) _ (s .pre .1 .1) (k .column-span .ensures .1),
+    )))
