@@ -132,12 +132,27 @@ fn mean_crossing(load: &Load) -> f64 {
     ticks.sum::<usize>() as f64 / load.rays.len() as f64
 }
 
+/// The mean instructions of each cast on the rays of a load.
+fn counted(load: &Load) -> [Option<f64>; 2] {
+    let words = words(&load.rays);
+    CALLS.map(|(name, _)| instructions_by(load, name, &["--rays", &words]))
+}
+
+/// What both casts of loads take.
+pub fn print_counted(heading: &str, loads: &[Load]) {
+    print_head(heading, &["Load", "Full cast", "Marching cast"]);
+    for load in loads {
+        print!("| {} |", load.name);
+        counted(load).iter().for_each(|&n| print_number(n, 0));
+        println!();
+    }
+}
+
 fn print_row(way: &str, load: &Load) {
     let number = load.rays.len();
     let mean = |(_, call): (_, RayCall)| f64::from(load.fill_all::<MARKS>(call)) / number as f64;
     let probes = CALLS.map(mean);
-    let words = words(&load.rays);
-    let counted = CALLS.map(|(name, _)| instructions_by(load, name, &["--rays", &words]));
+    let counted = counted(load);
     let seconds = times::<MARKS, 2>(load, CALLS.map(|(_, call)| call));
     print!("| {way} | {} | {number} |", load.name);
     print_number(Some(mean_crossing(load)), 1);

@@ -1,18 +1,13 @@
 //! What the archive's first hits cost, by the tick of the hit.
 
+use crate::depth::{AWAY, RIGHT, UP};
 use crate::loads::{self, Load};
-use crate::{entries, print_head};
+use crate::{print_head, HIT};
 use reference::field::Ray;
 use std::ops::RangeInclusive;
 
-/// The axes of the depth images of examples/host, 145 steps long and at right angles to
-/// each other, and the way of their rays, as long.
-const RIGHT: [i32; 3] = [116, 87, 0];
-const UP: [i32; 3] = [-60, 80, 105];
-const AWAY: [i32; 3] = [-63, 84, -100];
-
-/// How many times that way the rays begin before the plane through the origin, and how
-/// many they end behind it.
+/// How many times the way of the depth images' rays these begin before the plane through
+/// the origin, and how many they end behind it.
 const BEFORE: [i32; 4] = [9, 6, 3, 0];
 const BEHIND: i32 = 9;
 
@@ -46,10 +41,7 @@ fn rays(before: i32) -> Vec<Ray> {
 
 /// The hits on a part. Panics where one costs more than the figure.
 fn hits(part: &Load) -> Vec<Hit> {
-    let numbers = part
-        .rays
-        .iter()
-        .map(|ray| part.first_hit(ray, entries::first_hit));
+    let numbers = part.rays.iter().map(|ray| part.first_hit(ray, HIT.1));
     let of_hits = numbers.filter(|number| number >> 32 < 3);
     let hit = |number: u64| {
         let [tick, probes] = [number >> 16, number].map(|n| n as u32 & 0xffff);

@@ -1,4 +1,4 @@
-//! The columns and the full casts of two archives, from shared libraries made of
+//! The columns, casts and first hits of two archives, from shared libraries made of
 //! them: both are linked and called in one way.
 
 use reference::field::Ray;
@@ -9,7 +9,7 @@ use std::sync::OnceLock;
 /// `fenalukki_column`, as `include/fenalukki.h` declares it.
 type ColumnEntry =
     unsafe extern "C" fn(*const u8, usize, i32, i32, i32, i32, i32, i32, *mut u8, usize) -> u32;
-/// `fenalukki_full_cast`, as it is declared there.
+/// `fenalukki_full_cast` and `fenalukki_marching_cast`, as they are declared there.
 type CastEntry = unsafe extern "C" fn(
     *const u8,
     usize,
@@ -24,10 +24,15 @@ type CastEntry = unsafe extern "C" fn(
     usize,
 ) -> u32;
 
+/// `fenalukki_first_hit`, as it is declared there.
+type HitEntry = unsafe extern "C" fn(*const u8, usize, i32, i32, i32, i32, i32, i32, u32) -> u64;
+
 /// The entries of a library.
 struct Entries {
     column: ColumnEntry,
     full_cast: CastEntry,
+    marching_cast: CastEntry,
+    first_hit: HitEntry,
 }
 
 extern "C" {
@@ -57,11 +62,15 @@ pub fn open(place: usize, library: &str) {
     assert!(!loaded.is_null(), "{library}: not loaded");
     let column = address(loaded, c"fenalukki_column");
     let full_cast = address(loaded, c"fenalukki_full_cast");
+    let marching_cast = address(loaded, c"fenalukki_marching_cast");
+    let first_hit = address(loaded, c"fenalukki_first_hit");
     // SAFETY: the addresses are those of functions of these types.
     let entries = unsafe {
         Entries {
             column: transmute::<*mut c_void, ColumnEntry>(column),
             full_cast: transmute::<*mut c_void, CastEntry>(full_cast),
+            marching_cast: transmute::<*mut c_void, CastEntry>(marching_cast),
+            first_hit: transmute::<*mut c_void, HitEntry>(first_hit),
         }
     };
     let set = ENTRIES[place].set(entries);
@@ -82,13 +91,31 @@ pub fn column<const PLACE: usize>(file: &[u8], ray: &Ray, column: &mut [u8]) -> 
     unsafe { entry(at, len, ax, ay, az, bx, by, bz, to, room) }
 }
 
-/// The number of a full cast, by the library at a place, with a budget that is
-/// enough.
-pub fn full_cast<const PLACE: usize>(file: &[u8], ray: &Ray, marks: &mut [u8]) -> u32 {
-    let entry = entries(PLACE).full_cast;
+/// The number of a cast by an entry of a library.
+fn cast(entry: CastEntry, file: &[u8], ray: &Ray, budget: u32, marks: &mut [u8]) -> u32 {
     let ([ax, ay, az], [bx, by, bz]) = (ray.a, ray.b);
     let (at, len) = (file.as_ptr(), file.len());
     let (to, room) = (marks.as_mut_ptr(), marks.len());
     // SAFETY: both pointers are valid for their lengths and do not overlap.
-    unsafe { entry(at, len, ax, ay, az, bx, by, bz, 2047, to, room) }
+    unsafe { entry(at, len, ax, ay, az, bx, by, bz, budget, to, room) }
+}
+
+/// The number of a full cast, by the library at a place, with a budget that is always
+/// enough.
+pub fn full_cast<const PLACE: usize>(file: &[u8], ray: &Ray, marks: &mut [u8]) -> u32 {
+    cast(entries(PLACE).full_cast, file, ray, 2047, marks)
+}
+
+/// The number of a marching cast, likewise.
+pub fn marching_cast<const PLACE: usize>(file: &[u8], ray: &Ray, marks: &mut [u8]) -> u32 {
+    cast(entries(PLACE).marching_cast, file, ray, 2052, marks)
+}
+
+/// The number of a first hit, by the library at a place.
+pub fn first_hit<const PLACE: usize>(file: &[u8], ray: &Ray, budget: u32) -> u64 {
+    let entry = entries(PLACE).first_hit;
+    let ([ax, ay, az], [bx, by, bz]) = (ray.a, ray.b);
+    let (at, len) = (file.as_ptr(), file.len());
+    // SAFETY: the pointer is valid for its length.
+    unsafe { entry(at, len, ax, ay, az, bx, by, bz, budget) }
 }

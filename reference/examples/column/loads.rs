@@ -1,5 +1,6 @@
-//! The parts and the rays whose columns are made, or full casts.
+//! The parts and the rays whose columns are made, casts or first hits.
 
+use crate::{depth, mean};
 use reference::field::Ray;
 use reference::generate::{lattice, strut};
 use reference::part::{read, FileBuilder, Kind, Node, Part, OPERATORS, REACH};
@@ -63,9 +64,29 @@ impl Load {
 
     /// The number of a first hit on a ray, with a budget that is always enough.
     pub fn first_hit(&self, ray: &Ray, call: HitCall) -> u64 {
+        black_box(&Aligned([0]));
         let number = call(black_box(&self.file), ray, 2047);
         assert!(number >> 32 > 0, "{} {ray:?}", self.name);
         number
+    }
+
+    /// A first hit on each ray once.
+    pub fn hit_all(&self, call: HitCall) {
+        self.rays.iter().for_each(|ray| {
+            self.first_hit(ray, call);
+        });
+    }
+
+    /// For each ray, how many points it comes within the radius of.
+    pub fn in_reach(&self) -> Vec<f64> {
+        let part = read(&self.file).expect("a part");
+        let near = |ray: &Ray| points(&part).filter(|point| reaches(ray, point)).count();
+        self.rays.iter().map(|ray| near(ray) as f64).collect()
+    }
+
+    /// The mean of that.
+    pub fn mean_in_reach(&self) -> f64 {
+        mean(self.in_reach().into_iter())
     }
 
     /// The records of the file.
@@ -87,6 +108,26 @@ impl Load {
 
 fn points(part: &Part) -> impl Iterator<Item = &Node> {
     part.nodes.iter().filter(|node| node.kind == Kind::Point)
+}
+
+fn inner(u: [i64; 3], v: [i64; 3]) -> i64 {
+    u[0] * v[0] + u[1] * v[1] + u[2] * v[2]
+}
+
+/// Whether some place of the ray, fractional ones too, is nearer a point's centre than
+/// its radius.
+fn reaches(ray: &Ray, point: &Node) -> bool {
+    let centre = [point.x, point.y, point.z];
+    let from = [0, 1, 2].map(|i| i64::from(ray.a[i]) - i64::from(centre[i]));
+    let way = ray.differences();
+    let (e, m, a) = (inner(from, from), inner(from, way), inner(way, way));
+    let square = i64::from(point.r) * i64::from(point.r);
+    match -m {
+        // the nearest place is A, or B, or between them
+        foot if foot <= 0 => e < square,
+        foot if foot >= a => e + 2 * m + a < square,
+        _ => e * a - m * m < square * a,
+    }
 }
 
 /// The least and the greatest coordinate of the points' balls along one axis,
@@ -134,14 +175,20 @@ pub fn parts() -> Vec<Load> {
     names.map(load).into()
 }
 
+fn lattice_load([x, y, z]: [i16; 3]) -> Load {
+    let part = lattice([x, y, z]);
+    Load::new(format!("lattice {x} x {y} x {z}"), &part, raster(&part))
+}
+
 /// Lattices of 1, 2, 4 and so on up to 256 points.
 pub fn lattices() -> Vec<Load> {
-    let load = |n: i16| {
-        let [x, y, z] = [(n + 2) / 3, (n + 1) / 3, n / 3].map(|power| 1 << power);
-        let part = lattice([x, y, z]);
-        Load::new(format!("lattice {x} x {y} x {z}"), &part, raster(&part))
-    };
-    (0..=8).map(load).collect()
+    let sizes = |n: i16| [(n + 2) / 3, (n + 1) / 3, n / 3].map(|power| 1 << power);
+    (0..=8).map(|n| lattice_load(sizes(n))).collect()
+}
+
+/// A lattice of 154 points.
+pub fn lattice_of_154() -> Load {
+    lattice_load([11, 7, 2])
 }
 
 /// The greatest number of points, all at one place. The first four cancel each
@@ -233,16 +280,18 @@ pub fn far() -> [Vec<Load>; 2] {
     ]
 }
 
-/// All loads.
+/// All loads whose columns are made.
 pub fn all() -> Vec<Load> {
     let [across, along] = far();
-    let loads = [parts(), lattices(), cancelled(), operators(), struts()];
-    let loads = loads.into_iter().chain([across, along]);
+    let lattice = vec![lattice_of_154()];
+    let loads = [parts(), lattices(), lattice, cancelled(), operators()];
+    let loads = loads.into_iter().chain([struts(), across, along]);
     loads.flatten().collect()
 }
 
 /// The load of this name.
 pub fn named(name: &str) -> Load {
-    let load = all().into_iter().find(|load| load.name == name);
+    let mut loads = all().into_iter().chain(depth::loads());
+    let load = loads.find(|load| load.name == name);
     load.expect("the name of a load")
 }

@@ -1,12 +1,15 @@
 //! What a column costs: the archive's, plain Rust's and that of samples; what
 //! the archive's two full casts cost, halving and marching; how many probes its
-//! first hits make, by the hit's tick; and what it takes to check, read and write
-//! a file. What marks and bits show of a strut thinner than a tick, and how thick
-//! walls come out. Or, by the shared libraries of an earlier archive and of this
-//! one, what a column cost before and after. Prints tables in Markdown;
-//! docs/BENCHMARKS.md explains them.
+//! first hits make, by the hit's tick, and what they cost on rays of the depth
+//! images; and what it takes to check, read and write a file. What marks and bits
+//! show of a strut thinner than a tick, and how thick walls come out. Or, by the
+//! shared libraries of an earlier archive and of this one, what columns and first
+//! hits cost before and after. Prints tables in Markdown; docs/BENCHMARKS.md
+//! explains them.
 
 mod casts;
+mod changes;
+mod depth;
 #[path = "../../tests/common/entries.rs"]
 mod entries;
 mod files;
@@ -19,10 +22,9 @@ mod samples;
 mod walls;
 
 use casts::MARKS;
-use loads::{Load, RayCall};
-use measure::{instructions, instructions_by};
+use loads::{HitCall, Load, RayCall};
+use measure::instructions;
 use reference::cast::COLUMN_BYTES;
-use reference::field::Ray;
 use std::env;
 
 /// The calls, by the names that the profiler knows them by.
@@ -31,19 +33,46 @@ const ARCHIVE: (&str, RayCall) = ("fenalukki_column", entries::column);
 const PLAIN: (&str, RayCall) = ("plain_column", plain::plain_column);
 const SAMPLED: (&str, RayCall) = ("sampled_column", samples::sampled_column);
 
-/// The calls of an earlier archive and of this one, by shared libraries.
-const BEFORE_AFTER: [RayCall; 2] = [libraries::column::<0>, libraries::column::<1>];
-const BEFORE_AFTER_CASTS: [RayCall; 2] = [libraries::full_cast::<0>, libraries::full_cast::<1>];
+/// The archive's first hit, likewise.
+const HIT: (&str, HitCall) = ("fenalukki_first_hit", entries::first_hit);
 
-/// The mean probes of a column.
-fn probes(load: &Load) -> f64 {
-    f64::from(load.fill_all::<COLUMN_BYTES>(ARCHIVE.1)) / load.rays.len() as f64
+/// The seconds of a column in 003, section 5, Table 1: the jellyfish of 154 line
+/// segments, 512 x 512 columns of 1,024 voxels in 3.5 s.
+const PUBLISHED: f64 = 3.5 / (512.0 * 512.0);
+
+fn mean(numbers: impl ExactSizeIterator<Item = f64>) -> f64 {
+    let count = numbers.len() as f64;
+    numbers.sum::<f64>() / count
 }
 
-/// The mean middles of a column, one for each crossing tick.
-fn middles(load: &Load) -> f64 {
-    let ticks = load.rays.iter().map(|ray| casts::crossing_ticks(load, ray));
-    ticks.sum::<usize>() as f64 / load.rays.len() as f64
+/// What the columns of a load ask for, in the mean: the points in reach of a ray, probes,
+/// middles, one for each crossing tick, and the bounds of points, of those in reach alone.
+struct Asked {
+    in_reach: f64,
+    probes: f64,
+    middles: f64,
+    bounds: f64,
+}
+
+impl Asked {
+    fn of(load: &Load) -> Asked {
+        let in_reach = load.in_reach();
+        let casts = load.rays.iter().map(|ray| load.fill(ray, casts::halving));
+        let casts: Vec<(u32, [u8; MARKS])> = casts.collect();
+        let probes = || casts.iter().map(|(probes, _)| f64::from(*probes));
+        let middles = || casts.iter().map(|(_, marks)| casts::crossing(marks) as f64);
+        let both = probes().zip(middles()).map(|(x, y)| x + y);
+        Asked {
+            probes: mean(probes()),
+            middles: mean(middles()),
+            bounds: mean(in_reach.iter().zip(both).map(|(n, both)| n * both)),
+            in_reach: mean(in_reach.into_iter()),
+        }
+    }
+
+    fn probes_and_middles(&self) -> f64 {
+        self.probes + self.middles
+    }
 }
 
 /// A heading, and the head of a table.
@@ -60,10 +89,15 @@ fn print_number(number: Option<f64>, digits: usize) {
     }
 }
 
-/// The first cells of a row: the load, its points, and what a column asks bounds of.
-fn print_load(load: &Load) {
+/// The first cells of a row: the load, its points, those in reach of a ray, and what a
+/// column asks bounds of.
+fn print_load(load: &Load) -> Asked {
+    let asked = Asked::of(load);
     print!("| {} | {} |", load.name, load.points);
-    print!(" {:.1} | {:.1} |", probes(load), middles(load));
+    for number in [asked.in_reach, asked.probes, asked.middles] {
+        print_number(Some(number), 1);
+    }
+    asked
 }
 
 fn print_part(load: &Load) {
@@ -81,6 +115,7 @@ fn print_parts() {
     let columns = [
         "Part",
         "Points",
+        "In reach",
         "Probes",
         "Middles",
         "Archive",
@@ -115,12 +150,12 @@ fn print_files() {
 }
 
 fn print_growing(load: &Load) {
-    let (points, both) = (load.points as f64, probes(load) + middles(load));
     let [archive, sampled] = [ARCHIVE, SAMPLED].map(|(name, _)| instructions(load, name));
-    print_load(load);
+    let asked = print_load(load);
+    let some_in_reach = archive.filter(|_| asked.bounds > 0.0);
     print_number(archive, 0);
-    print_number(archive.map(|n| n / both), 0);
-    print_number(archive.map(|n| n / both / points), 1);
+    print_number(archive.map(|n| n / asked.probes_and_middles()), 0);
+    print_number(some_in_reach.map(|n| n / asked.bounds), 1);
     print_number(sampled, 0);
     println!();
 }
@@ -129,11 +164,12 @@ fn print_growth(heading: &str, loads: &[Load]) {
     let columns = [
         "Load",
         "Points",
+        "In reach",
         "Probes",
         "Middles",
         "Archive",
         "For a probe or middle",
-        "And point",
+        "And point in reach",
         "Samples",
     ];
     print_head(heading, &columns);
@@ -159,19 +195,17 @@ fn print_struts() {
 }
 
 /// The loads on one ray, of which the first has no far point; the others have
-/// as many probes and middles.
+/// as many points in reach, probes and middles.
 fn print_far(loads: &[Load]) {
-    let both = |load: &Load| probes(load) + middles(load);
-    let (without, mean) = (instructions(&loads[0], ARCHIVE.0), both(&loads[0]));
+    let without = instructions(&loads[0], ARCHIVE.0);
     for load in loads {
-        assert_eq!(both(load), mean, "{}", load.name);
         let far = (load.points - 1) as f64;
         let archive = instructions(load, ARCHIVE.0);
         let more = archive.zip(without).filter(|_| far > 0.0);
-        print_load(load);
+        let asked = print_load(load);
+        assert_eq!(asked.in_reach, 1.0, "{}", load.name);
         print_number(archive, 0);
-        print_number(archive.map(|n| n / mean), 0);
-        print_number(more.map(|(n, without)| (n - without) / far / mean), 1);
+        print_number(more.map(|(n, without)| (n - without) / far), 1);
         println!();
     }
 }
@@ -180,101 +214,64 @@ fn print_far_points() {
     let columns = [
         "Load",
         "Points",
+        "In reach",
         "Probes",
         "Middles",
         "Archive",
-        "For a probe or middle",
-        "And far point",
+        "For a far point",
     ];
     print_head("Far points", &columns);
     loads::far().iter().for_each(|loads| print_far(loads));
 }
 
-/// The rays that both archives were compared on, the crossing ticks, the columns that
-/// differ and the bits in which they do.
-#[derive(Default)]
-struct Compared {
-    rays: usize,
-    crossing: usize,
-    columns: usize,
-    bits: usize,
+/// Of the bounds of points that a column would ask for with the whole tree, those of
+/// points in reach of its ray.
+fn print_in_reach(load: &Load) {
+    let asked = Asked::of(load);
+    let all = load.points as f64 * asked.probes_and_middles();
+    print!("| {} | {} |", load.name, load.points);
+    print_number(Some(asked.in_reach), 1);
+    print_number(Some(all), 0);
+    print_number(Some(asked.bounds), 0);
+    println!(" {:.1}% |", 100.0 * asked.bounds / all);
 }
 
-impl Compared {
-    /// Panics unless both archives leave the same marks, make the same probes and set
-    /// the same bits but for those of crossing ticks.
-    fn compare(&mut self, load: &Load, ray: &Ray) {
-        let casts = BEFORE_AFTER_CASTS.map(|call| load.fill::<MARKS>(ray, call));
-        assert_eq!(casts[0], casts[1], "{} {ray:?}", load.name);
-        let (probes, marks) = casts[0];
-        let columns = BEFORE_AFTER.map(|call| load.fill::<COLUMN_BYTES>(ray, call));
-        assert_eq!(columns.map(|column| column.0), [probes; 2]);
-        let [before, after] = columns.map(|column| column.1);
-        let bit = |bits: [u8; COLUMN_BYTES], t: usize| bits[t / 8] >> (t % 8) & 1;
-        let differ = (0..MARKS).filter(|&t| bit(before, t) != bit(after, t));
-        let differ: Vec<usize> = differ.collect();
-        assert!(
-            differ.iter().all(|&t| marks[t] == 1),
-            "{} {ray:?}",
-            load.name
-        );
-        self.rays += 1;
-        self.crossing += casts::crossing(&marks);
-        self.columns += usize::from(before != after);
-        self.bits += differ.len();
-    }
-
-    fn print(&self) {
-        let Compared {
-            rays,
-            crossing,
-            columns,
-            bits,
-        } = self;
-        println!("\nBoth leave the same marks on {rays} rays, byte for byte, and their columns");
-        println!("make the same probes. {columns} columns differ, in {bits} bits, all of crossing");
-        println!("ticks, of which there are {crossing}.");
-    }
-}
-
-fn print_change(load: &Load, paths: [&str; 2]) {
-    let counted = paths.map(|path| instructions_by(load, ARCHIVE.0, &[path]));
-    let times = measure::times::<COLUMN_BYTES, 2>(load, BEFORE_AFTER);
-    print_load(load);
-    counted.iter().for_each(|&number| print_number(number, 0));
-    print_number(counted[1].zip(counted[0]).map(|(x, y)| x / y), 2);
-    println!(" {:.2} |", times[1] / times[0]);
-}
-
-/// An earlier archive and this one, by their shared libraries.
-fn print_changes(paths: [&str; 2]) {
-    warn();
-    libraries::open(0, paths[0]);
-    libraries::open(1, paths[1]);
-    let loads = loads::all();
-    let mut compared = Compared::default();
-    for load in &loads {
-        load.rays.iter().for_each(|ray| compared.compare(load, ray));
-    }
+fn print_points_in_reach() {
     let columns = [
         "Load",
         "Points",
-        "Probes",
-        "Middles",
-        "Before",
-        "After",
-        "After / before",
-        "Time, after / before",
+        "In reach",
+        "Points times probes and middles",
+        "of these in reach of the ray",
+        "Share",
     ];
-    print_head("Before and after", &columns);
-    loads.iter().for_each(|load| print_change(load, paths));
-    compared.print();
+    print_head("Points in reach of a ray", &columns);
+    loads::parts().iter().for_each(print_in_reach);
+    loads::lattices().iter().for_each(print_in_reach);
+}
+
+/// A column's time beside the published one.
+fn print_published() {
+    let columns = ["Column", "Points or segments", "Time, µs"];
+    print_head("A published figure", &columns);
+    println!("| 003, jellyfish | 154 | {:.1} |", 1e6 * PUBLISHED);
+    let pad = loads::named("pad.part");
+    for load in [loads::lattice_of_154(), pad] {
+        let [seconds] = measure::times::<COLUMN_BYTES, 1>(&load, [ARCHIVE.1]);
+        print!("| {} | {} |", load.name, load.points);
+        print_number(Some(1e6 * seconds / load.rays.len() as f64), 1);
+        println!();
+    }
 }
 
 /// Makes the calls of a load by one name.
 fn make(load: &Load, name: &str) {
     if let Some((_, call)) = files::CALLS.iter().find(|(known, _)| *known == name) {
         load.calls(*call);
+        return;
+    }
+    if name == HIT.0 {
+        load.hit_all(HIT.1);
         return;
     }
     let call = CALLS.iter().find(|(known, _)| *known == name);
@@ -288,23 +285,21 @@ fn warn() {
     }
 }
 
-/// Makes the columns of a load by one library alone.
-fn make_by(load: &Load, library: &str) {
-    libraries::open(0, library);
-    load.fill_all::<COLUMN_BYTES>(libraries::column::<0>);
-}
-
 fn print_tables() {
     warn();
     print_parts();
     print_growth("Growth with points", &loads::lattices());
     print_growth("Growth with probes", &loads::cancelled());
     print_growth("Each operator", &loads::operators());
+    casts::print_counted("Casts of each operator", &loads::operators());
     print_far_points();
+    print_points_in_reach();
+    print_published();
     print_struts();
     walls::print();
     casts::print();
     hits::print();
+    depth::print();
     print_files();
 }
 
@@ -312,10 +307,10 @@ fn main() {
     let words: Vec<String> = env::args().skip(1).collect();
     let words: Vec<&str> = words.iter().map(String::as_str).collect();
     match words[..] {
-        ["--before", before, after] => print_changes([before, after]),
+        ["--before", before, after] => changes::print([before, after]),
         [load, name] => make(&loads::named(load), name),
         [load, name, "--rays", rays] => casts::make(load, name, rays),
-        [load, _, library] => make_by(&loads::named(load), library),
+        [load, name, library] => changes::make(&loads::named(load), name, library),
         _ => print_tables(),
     }
 }

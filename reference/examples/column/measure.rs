@@ -1,6 +1,7 @@
 //! What the calls of a load cost: instructions, and times of this run.
 
-use crate::loads::{Load, RayCall};
+use crate::loads::{HitCall, Load, RayCall};
+use reference::field::Ray;
 use std::env;
 use std::process::Command;
 use std::time::Instant;
@@ -40,22 +41,34 @@ pub fn instructions_by(load: &Load, call: &str, arguments: &[&str]) -> Option<f6
     Some(all / load.rays.len() as f64)
 }
 
-/// Makes the call on each ray of a load once and keeps its time where it is the
-/// shortest.
-fn shorten<const BYTES: usize>(shortest: &mut [f64], load: &Load, call: RayCall) {
-    for (seconds, ray) in shortest.iter_mut().zip(&load.rays) {
-        let start = Instant::now();
-        load.fill::<BYTES>(ray, call);
-        *seconds = seconds.min(start.elapsed().as_secs_f64());
-    }
-}
-
-/// The time of each of `N` calls, which fill so many bytes, on all rays of a load:
-/// the shortest of each ray, added up. The calls take turns.
-pub fn times<const BYTES: usize, const N: usize>(load: &Load, calls: [RayCall; N]) -> [f64; N] {
+/// The time of each of `N` calls on all rays of a load: the shortest of each ray, added
+/// up. The calls take turns.
+fn shortest<C: Copy, const N: usize>(
+    load: &Load,
+    calls: [C; N],
+    make: impl Fn(&Ray, C),
+) -> [f64; N] {
     let mut shortest = calls.map(|_| vec![f64::INFINITY; load.rays.len()]);
     for turn in 0..RUNS * N {
-        shorten::<BYTES>(&mut shortest[turn % N], load, calls[turn % N]);
+        for (seconds, ray) in shortest[turn % N].iter_mut().zip(&load.rays) {
+            let start = Instant::now();
+            make(ray, calls[turn % N]);
+            *seconds = seconds.min(start.elapsed().as_secs_f64());
+        }
     }
     shortest.map(|seconds| seconds.iter().sum())
+}
+
+/// The time of each of `N` calls, which fill so many bytes, on all rays of a load.
+pub fn times<const BYTES: usize, const N: usize>(load: &Load, calls: [RayCall; N]) -> [f64; N] {
+    shortest(load, calls, |ray, call| {
+        load.fill::<BYTES>(ray, call);
+    })
+}
+
+/// The time of the first hits by each of `N` calls on all rays of a load.
+pub fn hit_times<const N: usize>(load: &Load, calls: [HitCall; N]) -> [f64; N] {
+    shortest(load, calls, |ray, call| {
+        load.first_hit(ray, call);
+    })
 }
