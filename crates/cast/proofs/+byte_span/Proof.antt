@@ -21,14 +21,14 @@ use Rattle.cast.proofs.+byte_span.Lts-byte_span as lts
 use Rattle.cast.proofs.+byte_span.{statement}
 use Rattle.cast.proofs.+byte_span.Tie.{close}
 
-abbrev level : Measures 1 kinds.ps ℕ
-level κs a = a .1 .1 .1 .1 .0
+abbrev level : Measures 2 kinds.ps ℕ
+level κs a = a .1 .1 .1 .1 .1 .0
 
-abbrev at : ℕ → In 1 kinds.ps
-at t = and 1 kinds.ps (is 1 kinds.ps level t) reads.Pre
+abbrev at : ℕ → In 2 kinds.ps
+at t = and 2 kinds.ps (is 2 kinds.ps level t) reads.Pre
 
-abbrev below : ℕ → In 1 kinds.ps
-below t = and 1 kinds.ps (falls 1 kinds.ps _<_ level t) reads.Pre
+abbrev below : ℕ → In 2 kinds.ps
+below t = and 2 kinds.ps (falls 2 kinds.ps _<_ level t) reads.Pre
 
 -- what the calls inside ask and say
 abbrev calls : ℕ → lts.Claims
@@ -37,7 +37,7 @@ calls t = (probe.Asked, probe.Learnt, tick-byte.Asked, tick-byte.Learnt, below t
 module _ (t : ℕ) where
   -- from where an undecided span is halved back to the start
   abbrev start : lts.Else2 (calls t) (at t) reads.Post → lts.Start (calls t) (at t) reads.Post
-  start c = c .before .before .before
+  start c = c .before .before .before .before
 
   -- an undecided span that is halved has more than one tick
   several : (c : lts.Else2 (calls t) (at t) reads.Post) → 1 ≤ start c .args .level
@@ -54,37 +54,37 @@ module _ (t : ℕ) where
 
 pub +byte-span-spec : {M : Type 1} → statement M
 +byte-span-spec = close level λ t. lts.spec (calls t) (at t) reads.Post
-    (λ c κs. (c .pre .1 .0, c .pre .1 .1 .0 .end))
-    (λ c κs. let s = c .before .before in
+    (λ c κs. let s = c .before in (s .pre .1 .0, s .pre .1 .1 .0 .end))
+    (λ c κs. let s = c .before .before .before .before in
     (s .pre .1 .0, (omega (arith, s .pre .1 .1 .0 .end, ticks t s), s .pre .1 .1 .1 .1)))
-    (λ c. ticks t (c .before .before .before) .1)
+    (λ c. ticks t (c .before .before .before .before .before) .1)
     (λ c. omega arith)
-    (λ c. omega (arith, ticks t (c .before .before .before) .0))
+    (λ c. omega (arith, ticks t (c .before .before .before .before .before) .0))
     -- the span is decided or one tick long
-    (λ c. let j = c .before in let k = j .before in let s = k .before in let a = s .args in
+    (λ c. let j = c .before .before in let k = j .before in let s = k .before .before in let a = s .args in
     let mid = middleIn (a .prepared .now) (a .s) in
     bits-finished (stateIn (a .prepared .now) (a .s)) mid (a .level) (a .first) (a .len) (s .pre .1 .1 .0 .size)
     (λ o. elim (j .if1 .came) [ inl n ↦ absurd (n .taken (k .probe .ensures ∙ o)) | inr z ↦ eqb-true (a .level) 0 (z .1 .taken) ])
     _ (ticks t s .1)
     (ap (λ (m : ℕ). m / 2 ^ (8 - a .len)) (c .tick-byte .ensures ∙ ap (λ (m : ℕ). 255 * tickBit m (mid (a .first))) (k .probe .ensures)))
     refl)
-    (λ c. several t c)
-    (λ c κs. let s = start t c in (
-      omega (arith, s .pre .0, several t c),
-      (s .pre .1 .0, (half (s .pre .1 .1 .0) (several t c) (omega arith), (omega (arith, s .pre .1 .1 .1 .0), s .pre .1 .1 .1 .1))),
-    ))
-    (λ c. search needs)
     (λ c. several t (c .before))
     (λ c κs. let e = c .before in let s = start t e in (
       omega (arith, s .pre .0, several t e),
       (s .pre .1 .0, (half (s .pre .1 .1 .0) (several t e) (omega arith), (omega (arith, s .pre .1 .1 .1 .0), s .pre .1 .1 .1 .1))),
     ))
-    (λ c κs. let l = c .before in omega (arith, ticks t (start t (l .before)), l .byte-span .ensures .room, c .byte-span2 .ensures .room))
-    (λ c. let l = c .before .before .before in omega (arith, few t (l .before) _ _ (l .byte-span .ensures .probes)))
-    (λ c. let r = c .before .before .before in let l = r .before in
-    omega (arith, few t (l .before) _ _ (l .byte-span .ensures .probes), few t (l .before) _ _ (r .byte-span2 .ensures .probes)))
+    (λ c. search needs)
+    (λ c. several t (c .before .before .before))
+    (λ c κs. let e = c .before .before .before in let s = start t e in (
+      omega (arith, s .pre .0, several t e),
+      (s .pre .1 .0, (half (s .pre .1 .1 .0) (several t e) (omega arith), (omega (arith, s .pre .1 .1 .1 .0), s .pre .1 .1 .1 .1))),
+    ))
+    (λ c κs. let l = c .before .before in omega (arith, ticks t (start t (l .before .before)), l .byte-span .ensures .room, c .byte-span2 .ensures .room))
+    (λ c. let l = c .before .before .before .before in omega (arith, few t (l .before .before) _ _ (l .byte-span .ensures .probes)))
+    (λ c. let r = c .before .before .before in let l = r .before .before in
+    omega (arith, few t (l .before .before) _ _ (l .byte-span .ensures .probes), few t (l .before .before) _ _ (r .byte-span2 .ensures .probes)))
     -- the span is halved
-    (λ c. let j = c .before .before in let r = j .before in let l = r .before in let e = l .before in let s = start t e in let a = s .args in
+    (λ c. let j = c .before .before in let r = j .before in let l = r .before .before in let e = l .before .before in let s = start t e in let a = s .args in
     bits-halved (stateIn (a .prepared .now) (a .s)) (middleIn (a .prepared .now) (a .s)) (a .level) (a .first) (a .len) (a .level - 1) (a .len / 2)
     (s .pre .1 .1 .0 .size) (omega (arith, several t e)) (half-size (s .pre .1 .1 .0 .size) (several t e))
     (sym (e .before .before .probe .ensures) ∙ e .before .if1 .left)

@@ -23,14 +23,14 @@ use Rattle.cast.proofs.+column_span.Lts-column_span as lts
 use Rattle.cast.proofs.+column_span.{statement}
 use Rattle.cast.proofs.+column_span.Tie.{close}
 
-abbrev level : Measures 2 kinds.ps ℕ
-level κs a = a .1 .1 .1 .1 .1 .0
+abbrev level : Measures 3 kinds.ps ℕ
+level κs a = a .1 .1 .1 .1 .1 .1 .0
 
-abbrev at : ℕ → In 2 kinds.ps
-at t = and 2 kinds.ps (is 2 kinds.ps level t) reads.Pre
+abbrev at : ℕ → In 3 kinds.ps
+at t = and 3 kinds.ps (is 3 kinds.ps level t) reads.Pre
 
-abbrev below : ℕ → In 2 kinds.ps
-below t = and 2 kinds.ps (falls 2 kinds.ps _<_ level t) reads.Pre
+abbrev below : ℕ → In 3 kinds.ps
+below t = and 3 kinds.ps (falls 3 kinds.ps _<_ level t) reads.Pre
 
 -- what the calls inside ask and say
 abbrev calls : ℕ → lts.Claims
@@ -59,11 +59,11 @@ module _ (t : ℕ) where
 
   -- from where an undecided span is halved back to the start
   abbrev start : lts.Else2 (calls t) (at t) reads.Post → Start
-  start c = c .before .before .before .before
+  start c = c .before .before .before .before .before
 
   -- a span that is halved has more than one byte
   several : (c : lts.Else2 (calls t) (at t) reads.Post) → 1 ≤ start c .args .level
-  several c = let n = c .before .before .if1 .left in omega arith
+  several c = let n = c .before .before .before .if1 .left in omega arith
 
   -- the probes of a half
   few : (c : lts.Else2 (calls t) (at t) reads.Post) (i p : ℕ) → let a = start c .args in
@@ -75,35 +75,35 @@ module _ (t : ℕ) where
 pub +column-span-spec : {M : Type 1} → statement M
 +column-span-spec = close level λ t. lts.spec (calls t) (at t) reads.Post
     (λ c. omega (arith, within t (c .before)))
-    (λ c κs. let s = c .before .before in
+    (λ c κs. let s = c .before .before .before in
     (s .pre .1 .0, (record { size = refl; end = omega (arith, within t s) }, (omega arith, s .pre .1 .1 .1 .0))))
-    (λ c. let s = c .before .before .before in omega (arith, within t s, s .pre .1 .1 .1 .1))
+    (λ c. let s = c .before .before .before .before in omega (arith, within t s, s .pre .1 .1 .1 .1))
     (λ c. search needs)
     -- one byte
-    (λ c. let s = c .before .before .before in let a = s .args in
+    (λ c. let s = c .before .before .before .before in let a = s .args in
     byte-made (stateIn (a .prepared .now) (a .s)) (middleIn (a .prepared .now) (a .s)) (a .level) (a .first) (a .len) (s .pre .1 .1 .0 .size)
-    (a .out .now) (c .byte-span .result) (c .before .if1 .taken) (c .byte-span .ensures))
-    (λ c. omega (arith, within t (c .before .before)))
-    (λ c κs. let s = c .before .before in (s .pre .1 .0, omega (arith, within t s)))
-    (λ c κs. let s = c .before .before .before .before .before in (s .pre .1 .0, omega (arith, within t s)))
+    (a .out .now) (c .byte-span .result) (c .before .before .if1 .taken) (c .byte-span .ensures))
+    (λ c. omega (arith, within t (c .before .before .before)))
+    (λ c κs. let s = c .before .before .before in (s .pre .1 .0, omega (arith, within t s)))
+    (λ c κs. let s = c .before .before .before .before .before .before .before in (s .pre .1 .0, omega (arith, within t s)))
     (λ c κs. search needs)
     (λ c. search needs)
     -- the span is decided
-    (λ c. let f = c .before .before in let b = f .before in let d = b .before .before in let k = d .before in let s = k .before .before .before in
+    (λ c. let f = c .before .before in let b = f .before in let d = b .before .before .before in let k = d .before in let s = k .before .before .before .before in
     let a = s .args in let st = stateIn (a .prepared .now) (a .s) in let mid = middleIn (a .prepared .now) (a .s) in
     bytes-finished st mid (a .level) (a .first) (a .len) (s .pre .1 .1 .0 .size) (a .out .now) _
     (λ u. d .if2 .taken (k .probe .ensures ∙ u))
     (f .fill .ensures
     ∙ ap (λ (m : ℕ). sets (a .out .now) (a .first) (replicate (a .len) m))
     (b .tick-byte .ensures ∙ ap (λ (m : ℕ). 255 * tickBit m (mid (8 * a .first))) (k .probe .ensures))))
-    (λ c. several t (c .before))
-    (λ c κs. let e = c .before in let s = start t e in (
+    (λ c. several t (c .before .before))
+    (λ c κs. let e = c .before .before in let s = start t e in (
       omega (arith, s .pre .0, several t e),
       (s .pre .1 .0, (half (s .pre .1 .1 .0) (several t e) (omega arith), (s .pre .1 .1 .1 .0, omega (arith, s .pre .1 .1 .1 .1)))),
     ))
-    (λ c. omega (arith, within t (start t (c .before .before .before .before .before))))
-    (λ c. several t (c .before .before .before .before .before))
-    (λ c κs. let l = c .before .before .before in let e = l .before .before in let s = start t e in (
+    (λ c. omega (arith, within t (start t (c .before .before .before .before .before .before .before))))
+    (λ c. several t (c .before .before .before .before .before .before .before))
+    (λ c κs. let l = c .before .before .before .before in let e = l .before .before .before in let s = start t e in (
       omega (arith, s .pre .0, several t e),
       (
         s .pre .1 .0,
@@ -113,12 +113,12 @@ pub +column-span-spec : {M : Type 1} → statement M
         ),
       ),
     ))
-    (λ c. let l = c .before .before .before .before .before .before in omega (arith, few t (l .before .before) _ _ (l .column-span .ensures .0)))
-    (λ c. let r = c .before .before in let l = r .before .before .before .before in let e = l .before .before in
+    (λ c. let l = c .before .before .before .before .before .before .before in omega (arith, few t (l .before .before .before) _ _ (l .column-span .ensures .0)))
+    (λ c. let r = c .before .before in let l = r .before .before .before .before .before in let e = l .before .before .before in
     omega (arith, few t e _ _ (l .column-span .ensures .0), few t e _ _ (r .column-span2 .ensures .0)))
     (λ c. search needs)
     -- the span is halved
-    (λ c. let r = c .before .before in let l = r .before .before .before .before in let e = l .before .before in let s = start t e in
+    (λ c. let r = c .before .before in let l = r .before .before .before .before .before in let e = l .before .before .before in let s = start t e in
     let a = s .args in
     bytes-halved (stateIn (a .prepared .now) (a .s)) (middleIn (a .prepared .now) (a .s)) (a .level) (a .first) (a .len) (s .pre .1 .1 .0 .size)
     (a .out .now) (a .level - 1) (a .len / 2) (omega (arith, several t e)) (half-size (s .pre .1 .1 .0 .size) (several t e))

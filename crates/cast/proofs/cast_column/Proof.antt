@@ -19,11 +19,11 @@ unfolding bitIn spanBit
 cast-column-spec =
     tie.close
     (tie.spec
-    (λ c κs. let p = c .before .before .pre in (p .0, (record { size = refl; end = omega arith }, (omega arith, p .1 .1))))
+    (λ c κs. let p = c .before .before .before .pre in (p .0, (record { size = refl; end = omega arith }, (omega arith, p .1 .1))))
     (λ c. search needs)
     (λ c.
     let k = c .before .before in
-    let s = k .before .before .before in
+    let s = k .before .before .before .before in
     let a = s .args in
     let st = stateIn (a .prepared .now) (a .s) in
     let mid = middleIn (a .prepared .now) (a .s) in (

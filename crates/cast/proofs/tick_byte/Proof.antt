@@ -17,8 +17,8 @@ unfolding tickBit
 not-solid c =
     let other : eqb (c .before .before .args .mark) insideMark ≡ false = ne-eqb _ _ (c .before .if1 .left) in
     elim (c .if2 .came) [
-      | inl t ↦ rw (other, eq-eqb _ _ (t .0 .taken), sym (t .1 .ensures) ∙ t .2 .left)
-      | inr t ↦ rw (other, ne-eqb _ _ (t .left))
+      | inl t ↦ rw (other, eq-eqb _ _ (t .0 .taken), sym (t .2 .ensures) ∙ t .3 .left)
+      | inr t ↦ rw (other, ne-eqb _ _ (t .0 .left))
     ]
 
 pub tick-byte-spec : {M : Type 1} → statement M
@@ -30,6 +30,6 @@ tick-byte-spec =
     (λ c κs. search needs)
     (λ c.
     let solid = c .before in
-    let crossing = solid .before in
+    let crossing = solid .before .before in
     rw (ne-eqb _ _ (crossing .before .if1 .left), eq-eqb _ _ (crossing .if2 .taken), sym (solid .middle-solid .ensures) ∙ c .if3 .taken))
     (λ c. not-solid c))
