@@ -36,7 +36,7 @@ fn distance_at(a: i64, p: Prepared, t: u64, ticks: u64) -> u64
 {
     let n = t as i64;
     let d = ticks as i64;
-    (p.e * (d * d) + p.m * (2 * n * d) + a * (n * n)) as u64
+    (p.e * (d * d) + n * (2 * (p.m * d) + a * n)) as u64
 }
 
 // Whether the place nearest the centre is strictly inside the span.

@@ -15,42 +15,42 @@ use Rattle.points.specs.Ranges.{PreparedRanges}
 use Rattle.points.proofs.distance_at.Statement.{statement}
 use Rattle.points.proofs.distance_at.Tie as tie
 
--- the squares of numbers of ticks, and twice a product, as the code multiplies
-squared : {n : ℕ} → n ≤ 4096 → Holds w64 (2 ^ 24) (toZ w64 n *ℤ toZ w64 n) (pos n *ℤ pos n)
-squared h = from-u h tt ⊠ from-u h tt
-
-doubled : {n : ℕ} → n ≤ 4096 → Holds w64 (2 ^ 13) (pos 2 *ℤ toZ w64 n) (pos 2 *ℤ pos n)
-doubled h = lit (pos 2) ⊠ from-u h tt
-
-crossed : {n d : ℕ} → n ≤ 4096 → d ≤ 4096 → Holds w64 (2 ^ 25) (back w64 (pos 2 *ℤ toZ w64 n) *ℤ toZ w64 d) (pos 2 *ℤ pos n *ℤ pos d)
-crossed h k = read (doubled h) tt ⊠ from-u k tt
-
 module _ {a : ℤ} {p : Prepared} {n d : ℕ} (h : PreparedRanges a p × ((n ≤ 4096) × (d ≤ 4096))) where
+  squared : Holds w64 (2 ^ 24) (toZ w64 d *ℤ toZ w64 d) (pos d *ℤ pos d)
+  squared = from-u (h .1 .1) tt ⊠ from-u (h .1 .1) tt
+
   first : Holds w64 (2 ^ 50) (back w64 (p .e) *ℤ back w64 (toZ w64 d *ℤ toZ w64 d)) (p .e *ℤ (pos d *ℤ pos d))
-  first = param (h .0 .e-small) tt ⊠ read (squared (h .1 .1)) tt
+  first = param (h .0 .e-small) tt ⊠ read squared tt
 
-  second : Holds w64 (2 ^ 51) (back w64 (p .m) *ℤ back w64 (back w64 (pos 2 *ℤ toZ w64 n) *ℤ toZ w64 d)) (p .m *ℤ (pos 2 *ℤ pos n *ℤ pos d))
-  second = param (h .0 .m-small) tt ⊠ read (crossed (h .1 .0) (h .1 .1)) tt
+  crossed : Holds w64 (2 ^ 38) (back w64 (p .m) *ℤ toZ w64 d) (p .m *ℤ pos d)
+  crossed = param (h .0 .m-small) tt ⊠ from-u (h .1 .1) tt
 
-  third : Holds w64 (2 ^ 50) (back w64 a *ℤ back w64 (toZ w64 n *ℤ toZ w64 n)) (a *ℤ (pos n *ℤ pos n))
-  third = param (h .0 .a-small) tt ⊠ read (squared (h .1 .0)) tt
+  doubled : Holds w64 (2 ^ 39) (pos 2 *ℤ back w64 (back w64 (p .m) *ℤ toZ w64 d)) (pos 2 *ℤ (p .m *ℤ pos d))
+  doubled = lit (pos 2) ⊠ read crossed tt
 
-  two : Holds w64 (2 ^ 50 + 2 ^ 51)
-      (back w64 (back w64 (p .e) *ℤ back w64 (toZ w64 d *ℤ toZ w64 d))
-      +ℤ back w64 (back w64 (p .m) *ℤ back w64 (back w64 (pos 2 *ℤ toZ w64 n) *ℤ toZ w64 d)))
-      (p .e *ℤ (pos d *ℤ pos d) +ℤ p .m *ℤ (pos 2 *ℤ pos n *ℤ pos d))
-  two = read first tt ⊞ read second tt
+  along : Holds w64 (2 ^ 38) (back w64 a *ℤ toZ w64 n) (a *ℤ pos n)
+  along = param (h .0 .a-small) tt ⊠ from-u (h .1 .0) tt
+
+  slope : Holds w64 (2 ^ 39 + 2 ^ 38)
+      (back w64 (pos 2 *ℤ back w64 (back w64 (p .m) *ℤ toZ w64 d)) +ℤ back w64 (back w64 a *ℤ toZ w64 n))
+      (pos 2 *ℤ (p .m *ℤ pos d) +ℤ a *ℤ pos n)
+  slope = read doubled tt ⊞ read along tt
+
+  second : Holds w64 (2 ^ 51 + 2 ^ 50)
+      (toZ w64 n *ℤ back w64 (back w64 (pos 2 *ℤ back w64 (back w64 (p .m) *ℤ toZ w64 d)) +ℤ back w64 (back w64 a *ℤ toZ w64 n)))
+      (pos n *ℤ (pos 2 *ℤ (p .m *ℤ pos d) +ℤ a *ℤ pos n))
+  second = from-u (h .1 .0) tt ⊠ read slope tt
 
   whole : Holds w64 (2 ^ 52)
-      (back w64 (back w64 (back w64 (p .e) *ℤ back w64 (toZ w64 d *ℤ toZ w64 d))
-      +ℤ back w64 (back w64 (p .m) *ℤ back w64 (back w64 (pos 2 *ℤ toZ w64 n) *ℤ toZ w64 d)))
-      +ℤ back w64 (back w64 a *ℤ back w64 (toZ w64 n *ℤ toZ w64 n)))
+      (back w64 (back w64 (p .e) *ℤ back w64 (toZ w64 d *ℤ toZ w64 d))
+      +ℤ back w64 (toZ w64 n
+      *ℤ back w64 (back w64 (pos 2 *ℤ back w64 (back w64 (p .m) *ℤ toZ w64 d)) +ℤ back w64 (back w64 a *ℤ toZ w64 n))))
       (dist (p .e) (p .m) a (pos n) (pos d))
   whole =
       subst (Holds w64 (2 ^ 52) _)
-      (ring 5 (λ e m a n d. e ⊗ (d ⊗ d) ⊕ m ⊗ (# 2 ⊗ n ⊗ d) ⊕ a ⊗ (n ⊗ n) ≔ e ⊗ d ⊗ d ⊕ # 2 ⊗ m ⊗ n ⊗ d ⊕ a ⊗ n ⊗ n) tt
+      (ring 5 (λ e m a n d. e ⊗ (d ⊗ d) ⊕ n ⊗ (# 2 ⊗ (m ⊗ d) ⊕ a ⊗ n) ≔ e ⊗ d ⊗ d ⊕ # 2 ⊗ m ⊗ n ⊗ d ⊕ a ⊗ n ⊗ n) tt
       (p .e) (p .m) a (pos n) (pos d))
-      (read two tt ⊞ read third tt)
+      (read first tt ⊞ read second tt)
 
 pub distance-at-spec : {M : Type 1} → statement M
 unfolding distanceAt
@@ -59,14 +59,13 @@ distance-at-spec =
     (tie.spec
     (λ c. search needs)
     (λ c. search needs)
-    (λ c. fit (squared (c .pre .1 .1)) tt)
+    (λ c. fit (squared (c .pre)) tt)
     (λ c. fit (first (c .before .before .pre)) tt)
-    (λ c. fit (doubled (c .before .before .pre .1 .0)) tt)
-    (λ c. let h = c .before .before .pre in fit (crossed (h .1 .0) (h .1 .1)) tt)
+    (λ c. fit (crossed (c .before .before .before .before .pre)) tt)
+    (λ c. fit (doubled (c .before .before .before .before .pre)) tt)
+    (λ c. fit (along (c .before .before .before .before .pre)) tt)
+    (λ c. fit (slope (c .before .before .before .before .pre)) tt)
     (λ c. fit (second (c .before .before .before .before .pre)) tt)
-    (λ c. fit (two (c .before .before .before .before .pre)) tt)
-    (λ c. fit (squared (c .before .before .before .before .pre .1 .0)) tt)
-    (λ c. fit (third (c .before .before .before .before .pre)) tt)
     (λ c. fit (whole (c .before .before .before .before .pre)) tt)
     (λ c. let h = c .before .before .before .before .pre in to-u (read (whole h) tt) (yes-nonNeg (h .0 .nonneg .dist-nn _ _)) tt tt)
     (λ c. ap natAbs (read (whole (c .before .before .before .before .pre)) tt .is)))
