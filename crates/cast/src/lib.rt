@@ -28,7 +28,7 @@ ghost use Rattle.field.specs.Solid.{solidOf};
 ghost use Rattle.loading.specs.Loading.{loadedRay};
 ghost use Rattle.halving.specs.Halving.{probeCount, spanMarks};
 ghost use Rattle.halving.specs.Search.{Searchable, Halvable, stateIn};
-ghost use Rattle.cast.specs.Ticks.{exponent, enough};
+ghost use Rattle.cast.specs.Ticks.{exponent};
 ghost use Rattle.cast.specs.Column.{columnBytes, middleIn, tickBit, bitIn, packed, spanBit, SpanBits};
 ghost use Rattle.cast.specs.Questions.{samePosition, endsDiffer, alsoAsked, checkHit, checkBuffer};
 ghost use Rattle.cast.specs.Calls.{fullCast, marksLeft, firstHit, columnAnswer, bitsLeft};
@@ -220,7 +220,7 @@ fn column_span(
 // A whole ray's column; answers the probes.
 fn cast_column(out: &mut [u8], held: &mut [i64; HELD], prepared: &[i64], s: Search) -> u32
     requires { ⌜ Searchable (now prepared) s ⌝ }
-    requires { ⌜ (s .ticks ≡ 2 ^ exponent) × (s .budget ≡ enough (2 ^ exponent)) ⌝ }
+    requires { ⌜ s .ticks ≡ 2 ^ exponent ⌝ }
     requires { ⌜ columnBytes ≤ length (now out) ⌝ }
     ensures probes { λ r. ⌜ r ≡ probeCount (stateIn (now (prepared .entry)) s) exponent 0 ⌝ }
     ensures bytes { λ _. ⌜ now (out .exit)

@@ -54,12 +54,6 @@ castLookedAt n (Refused number) = 0
 castLookedAt n (Complete probes) = n
 castLookedAt n (Spent tick probes) = tick
 
--- the probes that a cast made; a refused one makes none
-unfoldable pub castProbes : CastAnswer → ℕ
-castProbes (Refused number) = 0
-castProbes (Complete probes) = probes
-castProbes (Spent tick probes) = probes
-
 -- the n marks handed over: "Marks before that tick are written; from it on they are 3."
 unfoldable pub handed : ℕ → CastAnswer → List ℕ → List ℕ
 handed n answer ms = take (castLookedAt n answer) ms ++ replicate (n - castLookedAt n answer) notLookedAt

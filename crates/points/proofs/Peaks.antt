@@ -1,6 +1,7 @@
 -- The peak of a point on a ray is the q of the foot for each span that has the foot strictly inside (`peak-inside`), since the ray has it inside then
--- too. It is at most 65536 (`peak-le`). What `span_bounds` makes of its tests are the two q (`far-by`, `least-by`, `greatest-by`).
-use mathlib.Core.Path.{_≡_, refl, sym, subst, _∙_}
+-- too. It is at most 65536 (`peak-le`). What `comes_within` answers of a point that the ray reaches is whether the span comes within its radius
+-- (`within-is`). What `span_bounds` makes of its tests are the two q (`far-by`, `least-by`, `greatest-by`).
+use mathlib.Core.Path.{_≡_, refl, sym, _∙_}
 use mathlib.Core.Bool.{Bool, true, false, cond, _||_, true≢false}
 use Prim.Native.Nat.{ℕ, _*_, _≤_, _<_, min, max}
 use native.Mathlib.Nat.{mul-pos}
@@ -16,6 +17,7 @@ use Rattle.field.specs.declared.Prepared.{Prepared}
 use Rattle.field.specs.declared.Span.{Span}
 use Rattle.field.specs.Ray.{wholeRay, Ordered, Inside}
 use Rattle.field.specs.Bounds.{distanceAt, footInside, footDistance, lowQ, highQ, scaledSquare, qlo, qhi}
+use Rattle.field.specs.Reach.{footNearer, reaches}
 use Rattle.field.proofs.Quotients.{foot-positive, low-q-zero, high-q-zero, high-q-le}
 use Rattle.field.proofs.Far.{foot-widen}
 use Rattle.points.specs.declared.Reached.{Reached}
@@ -50,9 +52,12 @@ module _ {a : ℤ} {p : Prepared} (r : PreparedRanges a p) where
       by true e = foot-le e
       by false e = omega arith
 
+  foot-in : {s : Span} → SpanRanges s → footInside a p s ≡ true → footInside a p wholeRay ≡ true
+  foot-in h e = foot-widen a (r .nonneg .a-nn) p (span-ordered h) ray-ordered (span-inside h) e
+
   pub peak-inside : {s : Span} → SpanRanges s → footInside a p s ≡ true → peakOf a p ≡ footQ a p
   unfolding peakOf
-  peak-inside h e = rw (foot-widen a (r .nonneg .a-nn) p (span-ordered h) ray-ordered (span-inside h) e)
+  peak-inside h e = rw (foot-in h e)
 
 pub peak-small : {a : ℤ} {p : Reached} → ReachedRanges a p → (pos 0 ≤ℤ p .peak) × Small 65536 (p .peak)
 peak-small {a} {p} r = rw (r .peak-is) (nn-pos (peakOf a (p .point)), record { abs = peak-le (r .ranges) })
@@ -79,6 +84,15 @@ module _ (a : ℤ) (p : Reached) (s : Span) (r : ReachedRanges a p) (h : SpanRan
   neither true y z e = absurd (true≢false e)
   neither false true z e = absurd (true≢false e)
   neither false false z e = (refl, refl, e)
+
+  -- the span's test, of a point that the whole ray reaches: at the foot the ray's own test has compared
+  pub within-is : reaches a q wholeRay ≡ true → (footInside a q s || (ltb i whole || ltb j whole)) ≡ reaches a q s
+  unfolding reaches
+  within-is near = by (footInside a q s) refl
+    where
+      by : (b : Bool) → footInside a q s ≡ b → (b || (ltb i whole || ltb j whole)) ≡ cond b (footNearer a q) (ltb i whole || ltb j whole)
+      by true e = sym (rw (foot-in (r .ranges) h e) at near)
+      by false e = refl
 
   -- out of reach, both are 0
   far-q : (footInside a q s || (ltb i whole || ltb j whole)) ≡ false → (qlo a q s ≡ 0) × (qhi a q s ≡ 0)

@@ -1,11 +1,10 @@
 -- What no probe changes of a point on a ray: 65536 × u at "the place nearest the centre", rounded up. It is the qhi of every span that has this place
 -- strictly inside (document 01, "Bounds").
 use mathlib.Core.Path.{_≡_}
-use mathlib.Core.Bool.{true, cond}
+use mathlib.Core.Bool.{cond}
 use Prim.Native.Nat.{ℕ}
 use lib.IntN.{ℤ, pos, natAbs}
 use Rattle.field.specs.declared.Prepared.{Prepared}
-use Rattle.field.specs.declared.Span.{Span}
 use Rattle.field.specs.Ray.{wholeRay}
 use Rattle.field.specs.Bounds.{footInside, footDistance, highQ, scaledSquare}
 use Rattle.points.specs.declared.Reached.{Reached}

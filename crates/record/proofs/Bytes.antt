@@ -1,5 +1,5 @@
 -- Laws of the numbers in bytes, as the code's tests and signed sums need them.
--- `zeros-after file at` has the 11 bytes after a place as the code asks for them; `signed-read n h` is a signed 16-bit number as the code computes it.
+-- `zeros-after file at` has the 11 bytes after a place as the code asks for them; `signed-read n h` is a signed 16-bit number as the code has it.
 use Prim.Native.Nat.{ℕ, zero, suc, _+_, _-_, _%_, _<_}
 use native.Mathlib.Nat.{add-zero, zero-add, add-suc, suc-add, mod-le}
 use native.Mathlib.Numerals.{add-one}

@@ -79,12 +79,20 @@ pub +byte-span-spec : {M : Type 1} → statement M
       omega (arith, s .pre .0, several t e),
       (s .pre .1 .0, (half (s .pre .1 .1 .0) (several t e) (omega arith), (omega (arith, s .pre .1 .1 .1 .0), s .pre .1 .1 .1 .1))),
     ))
-    (λ c κs. let l = c .before .before in omega (arith, ticks t (start t (l .before .before)), l .byte-span .ensures .room, c .byte-span2 .ensures .room))
+    (λ c κs.
+    let l = c .before .before in
+    omega (arith, ticks t (start t (l .before .before)), l .byte-span .ensures .room, c .byte-span2 .ensures .room))
     (λ c. let l = c .before .before .before .before in omega (arith, few t (l .before .before) _ _ (l .byte-span .ensures .probes)))
     (λ c. let r = c .before .before .before in let l = r .before .before in
     omega (arith, few t (l .before .before) _ _ (l .byte-span .ensures .probes), few t (l .before .before) _ _ (r .byte-span2 .ensures .probes)))
     -- the span is halved
-    (λ c. let j = c .before .before in let r = j .before in let l = r .before .before in let e = l .before .before in let s = start t e in let a = s .args in
+    (λ c.
+    let j = c .before .before in
+    let r = j .before in
+    let l = r .before .before in
+    let e = l .before .before in
+    let s = start t e in
+    let a = s .args in
     bits-halved (stateIn (a .prepared .now) (a .s)) (middleIn (a .prepared .now) (a .s)) (a .level) (a .first) (a .len) (a .level - 1) (a .len / 2)
     (s .pre .1 .1 .0 .size) (omega (arith, several t e)) (half-size (s .pre .1 .1 .0 .size) (several t e))
     (sym (e .before .before .probe .ensures) ∙ e .before .if1 .left)

@@ -89,7 +89,12 @@ pub +column-span-spec : {M : Type 1} → statement M
     (λ c κs. search needs)
     (λ c. search needs)
     -- the span is decided
-    (λ c. let f = c .before .before in let b = f .before in let d = b .before .before .before in let k = d .before in let s = k .before .before .before .before in
+    (λ c.
+    let f = c .before .before in
+    let b = f .before in
+    let d = b .before .before .before in
+    let k = d .before in
+    let s = k .before .before .before .before in
     let a = s .args in let st = stateIn (a .prepared .now) (a .s) in let mid = middleIn (a .prepared .now) (a .s) in
     bytes-finished st mid (a .level) (a .first) (a .len) (s .pre .1 .1 .0 .size) (a .out .now) _
     (λ u. d .if2 .taken (k .probe .ensures ∙ u))
@@ -113,7 +118,9 @@ pub +column-span-spec : {M : Type 1} → statement M
         ),
       ),
     ))
-    (λ c. let l = c .before .before .before .before .before .before .before in omega (arith, few t (l .before .before .before) _ _ (l .column-span .ensures .0)))
+    (λ c.
+    let l = c .before .before .before .before .before .before .before in
+    omega (arith, few t (l .before .before .before) _ _ (l .column-span .ensures .0)))
     (λ c. let r = c .before .before in let l = r .before .before .before .before .before in let e = l .before .before .before in
     omega (arith, few t e _ _ (l .column-span .ensures .0), few t e _ _ (r .column-span2 .ensures .0)))
     (λ c. search needs)

@@ -33,7 +33,7 @@ column-spec =
     (λ c. let k = c .before .before .before .before in prepared-long _ _ _ _ refl (k .before .before .load-buffer .ensures .1) (accepted k))
     (λ c κs. let k = c .before .before .before .before in (
       searchable _ _ _ _ refl (k .before .before .load-buffer .ensures .1) (accepted k) _ _ (omega arith) (omega arith),
-      ((refl, refl), room-enough _ _ _ _ (buffer k)),
+      (refl, room-enough _ _ _ _ (buffer k)),
     ))
     (λ c. column-refused _ _ _ (sym (c .before .before .before .load-buffer .ensures .0) ∙ c .before .checked .given .1))
     (λ c. search needs)

@@ -1,5 +1,4 @@
 use borrow.Author.Tests.{lt-ltb, le-ltb}
-use borrow.Author.Needs.{needs}
 use Rattle.points.proofs.comes_within.Statement.{statement}
 use Rattle.points.proofs.comes_within.Tie as tie
 

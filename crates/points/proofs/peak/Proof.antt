@@ -1,7 +1,7 @@
 -- `peak`: where the foot is inside the ray, a is positive and may be divided by.
 use mathlib.Core.Path.{_≡_, sym, ap, subst, _∙_}
 use mathlib.Core.Bool.{true, false}
-use Prim.Native.Nat.{_*_, _^_, _≤_, _<_}
+use Prim.Native.Nat.{_^_, _≤_, _<_}
 use native.Mathlib.Nat.{le-trans, le-of-eq, mul-le-mul, mul-pos}
 use lib.IntN.{ℤ, pos, natAbs}
 use mir.Syntax.{w64}
