@@ -117,7 +117,7 @@
  *   state, uses no heap and no global data, and writes nothing but its buffer,
  *   bounds, totals or, in a read, numbers. Calls may run at the same time on
  *   several threads, on one file too, as long as what they write differs.
- *   A cast or the bounds at a place need about 26 KiB of stack, the other calls
+ *   A cast or the bounds at a place need about 19 KiB of stack, the other calls
  *   less than 1 KiB, measured on the compiled archive; 64 KiB are tested to be
  *   enough.
  *
@@ -164,16 +164,18 @@
  * What a call costs
  *
  *   A probe is one working out of the field's bounds over a stretch of ticks.
- *   The time of a cast goes by its probes times the part's records. The most
- *   are 2,047 probes, in a marching cast 2,052, of 511 records; a first hit at
- *   tick h takes at most 2 h + 11 probes. A column also works out the bounds at
- *   the middle of each crossing tick, at most 1,024 times; each is as much work
- *   as a probe and is not counted as one. On a part of 256 points, 3 sums and 252
- *   cuts that leave every tick undecided, a column takes 105 million instructions
- *   by callgrind, which is 67 for a record and each of the 3,071 times that the
- *   bounds are worked out; a full or a marching cast takes 70 million. No call
- *   tried took more. With 255 sums a column takes 100 million. A smaller budget
- *   makes fewer probes and so bounds a call's time; a column has no budget.
+ *   A cast goes through the part's records twice, for the check and for the ray.
+ *   Beyond that its time goes by its probes times the points within whose radius
+ *   the ray comes. The most are 2,047 probes, in a marching cast 2,052, of 511
+ *   records; a first hit at tick h takes at most 2 h + 11 probes. A column also
+ *   works out the bounds at the middle of each crossing tick, at most 1,024
+ *   times; each is as much work as a probe and is not counted as one. On a part
+ *   of 256 points, 3 sums and 252 cuts that leave every tick undecided, a column
+ *   takes 91 million instructions by callgrind, which is 58 for a record and each
+ *   of the 3,071 times that the bounds are worked out; a full or a marching cast
+ *   takes 61 million. No call tried took more. With 255 sums a column takes 70
+ *   million. A smaller budget makes fewer probes and so bounds a call's time; a
+ *   column has no budget.
  *   docs/BENCHMARKS.md has the figures of other parts.
  *
  * Coming from version 2
