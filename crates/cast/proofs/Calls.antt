@@ -37,7 +37,7 @@ use Rattle.halving.proofs.Within.{span-ranges, Agree, count-within, marks-withi
 use Rattle.cast.specs.declared.ColumnAnswer.{ColumnAnswer}
 use Rattle.cast.specs.declared.ColumnAnswer.the-variants as column
 use Rattle.cast.specs.Ticks.{exponent, rayState}
-use Rattle.cast.specs.Questions.{endsDiffer, hitQuestions, bufferQuestions, checkHit, checkBuffer}
+use Rattle.cast.specs.Questions.{bufferQuestions, checkBuffer}
 use Rattle.cast.specs.Column.{columnBytes, middleIn, middleSolid, tickBit, bitIn, bitOf, packed}
 use Rattle.cast.specs.Calls.{castAfter, fullCast, marksAfter, marksLeft}
 use Rattle.cast.specs.Calls.{hitAfter, firstHit, columnAfter, columnAnswer, bitsAfter, bitsLeft}
@@ -55,25 +55,21 @@ pub whole : (k : ℕ) → Halvable (2 ^ k) 0 (2 ^ k) k
 whole k = record { size = refl; end = omega arith }
 
 module _ (file : List ℕ) (ray : Ray) where
-  ray-accepted : {part : Summary} → checkHit file ray ≡ Accepted part → checkRay file ray ≡ Accepted part
-  unfolding checkHit hitQuestions checkRay
-  ray-accepted e = asked-before (rayQuestions file ray) ((13, endsDiffer ray) ∷ []) file e
-
-  pub hit-accepted : (need room : ℕ) {part : Summary} → checkBuffer file ray need room ≡ Accepted part → checkHit file ray ≡ Accepted part
-  unfolding checkBuffer bufferQuestions checkHit
-  hit-accepted need room e = asked-before (hitQuestions file ray) ((14, leb need room) ∷ []) file e
+  pub ray-accepted : (need room : ℕ) {part : Summary} → checkBuffer file ray need room ≡ Accepted part → checkRay file ray ≡ Accepted part
+  unfolding checkBuffer bufferQuestions checkRay
+  ray-accepted need room e = asked-before (rayQuestions file ray) ((14, leb need room) ∷ []) file e
 
   pub room-enough : (need room : ℕ) {part : Summary} → checkBuffer file ray need room ≡ Accepted part → need ≤ room
   unfolding checkBuffer bufferQuestions
   room-enough need room e =
       let v = answer-accepted (firstNo (bufferQuestions file ray need room)) file e in
-      leb-true need room (all-yes ((14, leb need room) ∷ []) (yes-append (hitQuestions file ray) ((14, leb need room) ∷ []) v .1) 0)
+      leb-true need room (all-yes ((14, leb need room) ∷ []) (yes-append (rayQuestions file ray) ((14, leb need room) ∷ []) v .1) 0)
 
   -- the array that `load_ray` leaves
   module _ (lent l : List ℤ) (long : length lent ≡ preparedRoom) (loaded : l ≡ loadedRay file ray lent)
-      {part : Summary} (e : checkHit file ray ≡ Accepted part) where
+      {part : Summary} (e : checkRay file ray ≡ Accepted part) where
     served : Serves file ray l part
-    served = rw loaded (serves file ray lent long (ray-accepted e))
+    served = rw loaded (serves file ray lent long e)
 
     pub prepared-long : preparedRoom ≡ length l
     prepared-long = served .long
@@ -94,7 +90,7 @@ module _ (file : List ℕ) (ray : Ray) where
         let of-ray = span-ranges {s = middle t (2 ^ k)} (omega arith) (omega arith) (omega arith) (omega arith) in
         let mark : getD (spanMarks (stateIn l (searched part (2 ^ k) budget)) k 0) t emptyMark ≡ markOf (solidOf file) ray (2 ^ k) t
         = ap (λ (ms : List ℕ). getD ms t emptyMark) (marks-within agree k 0 (omega arith))
-        ∙ ray-marks-at (solidOf file) (accepted-ray file ray (ray-accepted e) .valid) ray k t emptyMark h in
+        ∙ ray-marks-at (solidOf file) (accepted-ray file ray e .valid) ray k t emptyMark h in
         ap₂ tickBit mark (ap₂ solidBy (served .iso-is) (served .bounds (middle t (2 ^ k)) of-ray))
 
 -- ---- a cast that hands over T ticks' marks: in the states it finds an answer, and marks of every tick
@@ -167,15 +163,15 @@ module _ (file : List ℕ) (ray : Ray) (budget : ℕ) where
   hit-promised : (f : HitAnswer) → f ≡ firstHit file ray budget → HitPromised f
   hit-promised f e = (e, rw e (hit-demands file ray budget))
 
-  pub hit-refused : {n : ℕ} → checkHit file ray ≡ Refused n → HitPromised (found.Refused n)
-  unfolding checkHit firstHit hitAfter
-  hit-refused e = let v = answer-refused (firstNo (hitQuestions file ray)) file e in hit-promised _ (rw v)
+  pub hit-refused : {n : ℕ} → checkRay file ray ≡ Refused n → HitPromised (found.Refused n)
+  unfolding checkRay firstHit hitAfter
+  hit-refused e = let v = answer-refused (firstNo (rayQuestions file ray)) file e in hit-promised _ (rw v)
 
   pub hit-made : {st : ℕ → ℕ → ℕ} (f : HitAnswer) {part : Summary} → Agree (2 ^ exponent) st (rayState (solidOf file) ray (2 ^ exponent))
-      → checkHit file ray ≡ Accepted part → f ≡ hit st budget exponent 0 0 → HitPromised f
-  unfolding checkHit firstHit hitAfter
+      → checkRay file ray ≡ Accepted part → f ≡ hit st budget exponent 0 0 → HitPromised f
+  unfolding checkRay firstHit hitAfter
   hit-made f agree e answer =
-      let v = answer-accepted (firstNo (hitQuestions file ray)) file e in
+      let v = answer-accepted (firstNo (rayQuestions file ray)) file e in
       hit-promised f (rw v (answer ∙ hit-within agree budget exponent 0 0 (omega arith)))
 
 -- ---- column

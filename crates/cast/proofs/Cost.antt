@@ -11,22 +11,22 @@ use Rattle.field.specs.declared.Ray.{Ray}
 use Rattle.field.specs.Solid.{solidOf}
 use Rattle.field.specs.Bounds.{crossingMark}
 use Rattle.field.specs.Marks.{markOf}
+use Rattle.loading.specs.Loading.{rayQuestions}
 use Rattle.halving.specs.declared.HitAnswer.the-variants.{Hit, Spent}
 use Rattle.halving.specs.Halving.{Nested}
 use Rattle.halving.proofs.Cost.{crossing-hit, crossing-spent}
 use Rattle.cast.specs.Ticks.{exponent, hitCost, rayState}
-use Rattle.cast.specs.Questions.{hitQuestions}
 use Rattle.cast.specs.Calls.{hitAfter, firstHit}
 use Rattle.cast.proofs.Ticks.{ray-nested, tick-mark}
-use Rattle.cast.proofs.Demands.{hit-valid}
+use Rattle.cast.proofs.Demands.{ray-valid}
 
-module _ (file : List ℕ) (ray : Ray) (accepted : firstNo (hitQuestions file ray) ≡ Yes)
+module _ (file : List ℕ) (ray : Ray) (accepted : firstNo (rayQuestions file ray) ≡ Yes)
     (crossing : markOf (solidOf file) ray (2 ^ exponent) 0 ≡ crossingMark) (budget : ℕ) where
   abbrev st : ℕ → ℕ → ℕ
   st = rayState (solidOf file) ray (2 ^ exponent)
 
   nested : Nested st
-  nested = ray-nested (solidOf file) (hit-valid file ray accepted) ray (pow-pos exponent)
+  nested = ray-nested (solidOf file) (ray-valid file ray accepted) ray (pow-pos exponent)
 
   begins : st 0 1 ≡ crossingMark
   begins = tick-mark (solidOf file) ray (2 ^ exponent) 0 ∙ crossing

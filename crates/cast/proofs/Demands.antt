@@ -5,6 +5,8 @@
 -- apply.
 use mathlib.Core.Path.{_≡_, refl, sym, ap, _∙_}
 use mathlib.Core.List.{List, [], _∷_, _++_}
+use mathlib.Core.Logic.{_⊎_, inl, inr}
+use mathlib.Core.Bool.{Bool, true, false}
 use Prim.Native.Nat.{ℕ, _-_, _/_, _%_, _^_, _≤_, _<_}
 use native.Mathlib.Omega.{arith, pow-step}
 use native.Mathlib.Nat.{zero-add}
@@ -13,12 +15,12 @@ use lib.ListN.{length, take, drop, getD, replicate, length-append, List·getD-ap
 use lib.Seq.{getD-take, length-take-le}
 use lib.Dec.{leb}
 use lib.Pow.{pow-pos}
-use Rattle.record.specs.Questions.{firstNo}
+use Rattle.record.specs.Questions.{Question, firstNo, next}
 use Rattle.part.specs.File.{summary, fileQuestions, answerOf}
 use Rattle.record.specs.declared.Verdict.{Verdict}
 use Rattle.record.specs.declared.Verdict.the-variants.{Yes, No}
 use Rattle.part.specs.declared.Checked.the-variants.{Accepted}
-use Rattle.record.proofs.Questions.{Numbered, numbered-append, no-numbered, yes-append}
+use Rattle.record.proofs.Questions.{firstNo-append, no-is-not-yes, numbered-append, no-numbered, yes-append}
 use Rattle.part.proofs.File.{file-numbered}
 use Rattle.field.specs.declared.Ray.{Ray}
 use Rattle.field.specs.Solid.{Solid, Valid, solidOf}
@@ -39,11 +41,11 @@ use Rattle.halving.proofs.SameOrder.{spent-alike, clear-alike, hit-known}
 use Rattle.halving.proofs.Cost.{hit-cost, spent-cost}
 use Rattle.cast.specs.Column.{columnBytes, middleSolid, bitOf, packed, columnLookedAt}
 use Rattle.cast.specs.Ticks.{exponent, enough, rayState}
-use Rattle.cast.specs.Questions.{endsDiffer, hitQuestions, bufferQuestions}
+use Rattle.cast.specs.Questions.{bufferQuestions}
 use Rattle.cast.specs.Calls.{rayProbes, rayMarks, rayWalk, rayHit, castAfter, fullCast, marksAfter, marksLeft}
 use Rattle.cast.specs.Calls.{hitAfter, firstHit, columnAfter, columnAnswer, bitsAfter, bitsLeft}
 use Rattle.cast.specs.Demands.{Sound, Alone, AloneBits, Middles, Empty, AloneHit, FirstNotEmpty, HitAt}
-use Rattle.cast.specs.Demands.{Counted, CountedHit, SameOrder, PromptHit, FoundHit, CountedColumn}
+use Rattle.cast.specs.Demands.{RayRefusal, BufferRefusal, Counted, CountedHit, SameOrder, PromptHit, FoundHit, CountedColumn}
 use Rattle.cast.specs.Demands.{MarkDemands, CastDemands, HitDemands, ColumnDemands}
 use Rattle.cast.proofs.Bits.{bit-few, length-packed, packed-bit}
 use Rattle.cast.proofs.Middles.{middle-says}
@@ -51,35 +53,40 @@ use Rattle.cast.proofs.Ticks.{ray-nested, tick-mark, ray-marks-at}
 
 -- ---- accepted calls
 
-pub hit-valid : (file : List ℕ) (ray : Ray) → firstNo (hitQuestions file ray) ≡ Yes → Valid (solidOf file)
-unfolding hitQuestions checkRay answerOf
-hit-valid file ray v =
-    let w = yes-append (rayQuestions file ray) ((13, endsDiffer ray) ∷ []) v .0 in
-    let e : checkRay file ray ≡ Accepted (summary file) = ap (λ (v : Verdict). answerOf v file) w in
+pub ray-valid : (file : List ℕ) (ray : Ray) → firstNo (rayQuestions file ray) ≡ Yes → Valid (solidOf file)
+unfolding checkRay answerOf
+ray-valid file ray v =
+    let e : checkRay file ray ≡ Accepted (summary file) = ap (λ (v : Verdict). answerOf v file) v in
     accepted-ray file ray e .valid
 
 pub buffer-valid : (file : List ℕ) (ray : Ray) (need room : ℕ) → firstNo (bufferQuestions file ray need room) ≡ Yes → Valid (solidOf file)
 unfolding bufferQuestions
-buffer-valid file ray need room v = hit-valid file ray (yes-append (hitQuestions file ray) ((14, leb need room) ∷ []) v .0)
+buffer-valid file ray need room v = ray-valid file ray (yes-append (rayQuestions file ray) ((14, leb need room) ∷ []) v .0)
 
 -- ---- refusal numbers
 
-hit-numbered : (file : List ℕ) (ray : Ray) (k : ℕ) → 13 ≤ k → Numbered 1 k (hitQuestions file ray)
-unfolding hitQuestions rayQuestions
-hit-numbered file ray k h =
-    numbered-append 1 k (rayQuestions file ray) ((13, endsDiffer ray) ∷ [])
-    (numbered-append 1 k (fileQuestions file) ((12, rayInRange ray) ∷ []) (file-numbered k (omega arith) file) (omega arith, omega arith, tt))
-    (omega arith, omega arith, tt)
+pub ray-refusal : (file : List ℕ) (ray : Ray) {n : ℕ} → firstNo (rayQuestions file ray) ≡ No n → RayRefusal n
+unfolding rayQuestions
+ray-refusal file ray e =
+    no-numbered 1 12 (rayQuestions file ray)
+    (numbered-append 1 12 (fileQuestions file) ((12, rayInRange ray) ∷ []) (file-numbered 12 (omega arith) file) (omega arith, omega arith, tt)) e
 
-hit-refusal : (file : List ℕ) (ray : Ray) {n : ℕ} → firstNo (hitQuestions file ray) ≡ No n → (1 ≤ n) × (n ≤ 13)
-hit-refusal file ray e = no-numbered 1 13 (hitQuestions file ray) (hit-numbered file ray 13 (omega arith)) e
+-- of a list with one question more
+last-no : (qs : List Question) (number : ℕ) (b : Bool) {n : ℕ} → firstNo (qs ++ (number, b) ∷ []) ≡ No n → (firstNo qs ≡ No n) ⊎ (n ≡ number)
+unfolding firstNo next
+last-no qs number b {n} e = go (firstNo qs) b (sym (firstNo-append qs ((number, b) ∷ [])) ∙ e)
+  where
+    go : (v : Verdict) (b : Bool) → next v (firstNo ((number, b) ∷ [])) ≡ No n → (v ≡ No n) ⊎ (n ≡ number)
+    go Yes true h = no-is-not-yes (sym h)
+    go Yes false h = inr cc
+    go (No m) b h = inl h
 
-pub buffer-refusal : (file : List ℕ) (ray : Ray) (need room : ℕ) {n : ℕ} → firstNo (bufferQuestions file ray need room) ≡ No n → (1 ≤ n) × (n ≤ 14)
+pub buffer-refusal : (file : List ℕ) (ray : Ray) (need room : ℕ) {n : ℕ} → firstNo (bufferQuestions file ray need room) ≡ No n → BufferRefusal n
 unfolding bufferQuestions
-buffer-refusal file ray need room e =
-    no-numbered 1 14 (bufferQuestions file ray need room)
-    (numbered-append 1 14 (hitQuestions file ray) ((14, leb need room) ∷ []) (hit-numbered file ray 14 (omega arith))
-    (omega arith, omega arith, tt)) e
+buffer-refusal file ray need room e = elim (last-no (rayQuestions file ray) 14 (leb need room) e) [
+  | inl f ↦ inl (ray-refusal file ray f)
+  | inr f ↦ inr f
+]
 
 module _ (solid : Solid) (ray : Ray) where
   -- ---- demand 3
@@ -119,7 +126,7 @@ module _ (solid : Solid) (ray : Ray) where
         ∙ own valid t (omega (arith, looked-few))
 
     -- its demands, by the verdict of its questions
-    pub marks-by : 1 ≤ T → (v : Verdict) (lent : List ℕ) → (v ≡ Yes → Valid solid) → ((n : ℕ) → v ≡ No n → (1 ≤ n) × (n ≤ 14))
+    pub marks-by : 1 ≤ T → (v : Verdict) (lent : List ℕ) → (v ≡ Yes → Valid solid) → ((n : ℕ) → v ≡ No n → BufferRefusal n)
         → MarkDemands solid ray T count most budget (castAfter v w) (marksAfter v T w ms lent)
     unfolding castAfter marksAfter castLookedAt Alone Counted
     marks-by hT Yes lent valid number = record {
@@ -194,7 +201,7 @@ module _ (solid : Solid) (ray : Ray) where
 
       -- ---- the demands of a call, by the verdict of its questions
 
-      pub cast-by : (v : Verdict) (lent : List ℕ) → (v ≡ Yes → Valid solid) → ((n : ℕ) → v ≡ No n → (1 ≤ n) × (n ≤ 14))
+      pub cast-by : (v : Verdict) (lent : List ℕ) → (v ≡ Yes → Valid solid) → ((n : ℕ) → v ≡ No n → BufferRefusal n)
           → CastDemands solid ray k budget (castAfter v (rayWalk solid ray k budget))
           (marksAfter v (2 ^ k) (rayWalk solid ray k budget) (rayMarks solid ray k) lent)
       cast-by =
@@ -202,7 +209,7 @@ module _ (solid : Solid) (ray : Ray) where
           (walk-counted (rayWalk solid ray k budget) ray-walked) (length-marks st k 0)
           (λ valid t h. ray-marks-at solid valid ray k t notLookedAt h) (pow-pos k)
 
-      pub hit-by : (v : Verdict) → (v ≡ Yes → Valid solid) → ((n : ℕ) → v ≡ No n → (1 ≤ n) × (n ≤ 13))
+      pub hit-by : (v : Verdict) → (v ≡ Yes → Valid solid) → ((n : ℕ) → v ≡ No n → RayRefusal n)
           → HitDemands solid ray k budget (hitAfter v solid ray k budget)
       unfolding hitAfter hitLookedAt AloneHit CountedHit SameOrder PromptHit
       hit-by Yes valid number =
@@ -235,7 +242,7 @@ module _ (solid : Solid) (ray : Ray) where
       (List·getD-append (packed bit columnBytes) (drop columnBytes lent) 0 (t / 8) (omega (arith, length-packed bit columnBytes)))
       ∙ packed-bit bit (λ i. bit-few (markOf solid ray (2 ^ exponent) i) (middleSolid solid ray (2 ^ exponent) i)) columnBytes t (omega arith)
 
-  column-by : (v : Verdict) (lent : List ℕ) → (v ≡ Yes → Valid solid) → ((n : ℕ) → v ≡ No n → (1 ≤ n) × (n ≤ 14))
+  column-by : (v : Verdict) (lent : List ℕ) → (v ≡ Yes → Valid solid) → ((n : ℕ) → v ≡ No n → BufferRefusal n)
       → ColumnDemands solid ray exponent (columnAfter v solid ray) (bitsAfter v solid ray lent)
   unfolding columnAfter bitsAfter columnLookedAt AloneBits CountedColumn Middles
   column-by Yes lent valid number = record {
@@ -272,7 +279,7 @@ module _ (file : List ℕ) (ray : Ray) where
   pub hit-demands : (budget : ℕ) → HitDemands (solidOf file) ray exponent budget (firstHit file ray budget)
   unfolding firstHit
   hit-demands budget =
-      hit-by (solidOf file) ray exponent budget (firstNo (hitQuestions file ray)) (hit-valid file ray) (λ n e. hit-refusal file ray e)
+      hit-by (solidOf file) ray exponent budget (firstNo (rayQuestions file ray)) (ray-valid file ray) (λ n e. ray-refusal file ray e)
 
   pub column-demands : (lent : List ℕ) → ColumnDemands (solidOf file) ray exponent (columnAnswer file ray (length lent)) (bitsLeft file ray lent)
   unfolding columnAnswer bitsLeft

@@ -1,5 +1,5 @@
 -- One more question after an answer: it is the answer to the longer list of questions.
--- `also-asked (rayQuestions file ray) file 13 b` takes the answer of questions 1 to 12 to that of questions 1 to 13.
+-- `also-asked (rayQuestions file ray) file 14 b` takes the answer of questions 1 to 12 to that of 14 too.
 use Prim.Native.Nat.{ℕ}
 use mathlib.Core.Path.{_≡_, refl}
 use mathlib.Core.List.{List, [], _∷_, _++_}

@@ -8,6 +8,7 @@ use Rattle.record.specs.declared.Verdict.{Verdict}
 use Rattle.record.specs.declared.Verdict.the-variants.{Yes, No}
 use Rattle.field.specs.declared.Ray.{Ray}
 use Rattle.field.specs.Solid.{Solid, solidOf}
+use Rattle.loading.specs.Loading.{rayQuestions}
 use Rattle.halving.specs.declared.CastAnswer.{CastAnswer}
 use Rattle.halving.specs.declared.CastAnswer.the-variants as cast
 use Rattle.halving.specs.declared.HitAnswer.{HitAnswer}
@@ -18,7 +19,7 @@ use Rattle.cast.specs.declared.ColumnAnswer.{ColumnAnswer}
 use Rattle.cast.specs.declared.ColumnAnswer.the-variants as column
 use Rattle.cast.specs.Column.{columnBytes, bitOf, packed}
 use Rattle.cast.specs.Ticks.{exponent, rayState}
-use Rattle.cast.specs.Questions.{hitQuestions, bufferQuestions}
+use Rattle.cast.specs.Questions.{bufferQuestions}
 
 -- ---- a ray of 2^k ticks, with no refusal
 
@@ -65,7 +66,7 @@ hitAfter Yes solid ray k budget = rayHit solid ray k budget
 hitAfter (No number) solid ray k budget = found.Refused number
 
 unfoldable pub firstHit : List ℕ → Ray → ℕ → HitAnswer
-firstHit file ray budget = hitAfter (firstNo (hitQuestions file ray)) (solidOf file) ray exponent budget
+firstHit file ray budget = hitAfter (firstNo (rayQuestions file ray)) (solidOf file) ray exponent budget
 
 -- ---- "Column: 128 bytes […] and the probes, which are the full cast's. It has no budget and is never spent."
 

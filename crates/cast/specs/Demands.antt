@@ -1,6 +1,7 @@
 -- What the casting calls promise beside their equations (demands 2 and 3; document 02, P6 and P7), of a solid and a ray. What speaks of marks alone
 -- holds for any number T of ticks; what speaks of the halvings, for 2^k.
 use mathlib.Core.Path.{_≡_}
+use mathlib.Core.Logic.{_⊎_}
 use mathlib.Core.List.{List}
 use Prim.Native.Nat.{ℕ, _+_, _*_, _/_, _%_, _^_, _≤_, _<_}
 use lib.ListN.{getD}
@@ -77,11 +78,18 @@ module _ (solid : Solid) (ray : Ray) (T : ℕ) where
   HitAt h (found.Clear probes) = ⊥
   HitAt h (found.Spent tick probes) = ⊥
 
+-- the number of a refusal: of a first hit 1 to 12, of a call that is lent a buffer 14 too, and never 13
+abbrev pub RayRefusal : ℕ → Type 0
+RayRefusal number = (1 ≤ number) × (number ≤ 12)
+
+abbrev pub BufferRefusal : ℕ → Type 0
+BufferRefusal number = RayRefusal number ⊎ (number ≡ 14)
+
 -- "a full cast is spent exactly when the probe count of the whole ray is more than its budget; the probes it reports are the smaller of the two", and
 -- there is a budget that "is always enough": for a ray of T ticks that takes `count` probes, of at most `most`. Spent, a cast leaves ticks not looked
--- at. A refusal is 1 to 14.
+-- at.
 unfoldable pub Counted : (T count most budget : ℕ) → CastAnswer → Type 0
-Counted T count most budget (cast.Refused number) = (1 ≤ number) × (number ≤ 14)
+Counted T count most budget (cast.Refused number) = BufferRefusal number
 Counted T count most budget (cast.Complete probes) = (probes ≡ count) × (count ≤ budget) × (count ≤ most)
 Counted T count most budget (cast.Spent tick probes) = (tick < T) × (probes ≡ budget) × (budget < count) × (count ≤ most)
 
@@ -100,9 +108,9 @@ PromptHit k budget (found.Spent tick probes) = budget < hitCost k tick
 
 module _ (solid : Solid) (ray : Ray) (k : ℕ) where
   -- a first hit, "always the probes": a clear ray's are the full cast's, a hit's are no more, and a spent search has made its whole budget, which is
-  -- less than the full cast's. A refusal is 1 to 13.
+  -- less than the full cast's
   unfoldable pub CountedHit : ℕ → HitAnswer → Type 0
-  CountedHit budget (found.Refused number) = (1 ≤ number) × (number ≤ 13)
+  CountedHit budget (found.Refused number) = RayRefusal number
   CountedHit budget (found.Hit tick mark probes) = (probes ≤ budget) × (probes ≤ rayProbes solid ray k) × (rayProbes solid ray k ≤ enough (2 ^ k))
   CountedHit budget (found.Clear probes) =
       (probes ≡ rayProbes solid ray k) × (rayProbes solid ray k ≤ budget) × (rayProbes solid ray k ≤ enough (2 ^ k))
@@ -122,9 +130,9 @@ module _ (solid : Solid) (ray : Ray) (k : ℕ) where
   unfoldable pub FoundHit : ℕ → HitAnswer → Type 0
   FoundHit budget answer = (h : ℕ) → FirstNotEmpty solid ray (2 ^ k) h → hitCost k h ≤ budget → HitAt solid ray (2 ^ k) h answer
 
-  -- a column: "the probes, which are the full cast's". A refusal is 1 to 14.
+  -- a column: "the probes, which are the full cast's"
   unfoldable pub CountedColumn : ColumnAnswer → Type 0
-  CountedColumn (column.Refused number) = (1 ≤ number) × (number ≤ 14)
+  CountedColumn (column.Refused number) = BufferRefusal number
   CountedColumn (column.Complete probes) = (probes ≡ rayProbes solid ray k) × (rayProbes solid ray k ≤ enough (2 ^ k))
 
   -- ---- demands 2 and 3 of a call's answer, and of the bytes afterwards in the buffer that was lent

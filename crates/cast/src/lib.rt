@@ -1,12 +1,10 @@
 // Casts of a ray through a part file's tree: full cast, first hit and column, each from a file's bytes to its answer and its bytes
-// (document 01, "Calls", questions 12 to 14; document 02, P6).
+// (document 01, "Calls", questions 12 and 14; document 02, P6 and P8).
 
 use bounds::HELD;
 use bounds::span_solid;
-use exact::both;
 use field::CROSSING;
 use field::INSIDE;
-use field::Position;
 use field::Ray;
 use field::Span;
 use halving::CastAnswer;
@@ -30,7 +28,7 @@ ghost use Rattle.halving.specs.Halving.{probeCount, spanMarks};
 ghost use Rattle.halving.specs.Search.{Searchable, Halvable, stateIn};
 ghost use Rattle.cast.specs.Ticks.{exponent};
 ghost use Rattle.cast.specs.Column.{columnBytes, middleIn, tickBit, bitIn, packed, spanBit, SpanBits};
-ghost use Rattle.cast.specs.Questions.{samePosition, endsDiffer, alsoAsked, checkHit, checkBuffer};
+ghost use Rattle.cast.specs.Questions.{alsoAsked, checkBuffer};
 ghost use Rattle.cast.specs.Calls.{fullCast, marksLeft, firstHit, columnAnswer, bitsLeft};
 ghost use Rattle.cast.specs.Demands.{CastDemands, HitDemands, ColumnDemands};
 
@@ -61,19 +59,6 @@ struct ByteCast {
 
 // ---- the questions
 
-fn same_position(p: Position, q: Position) -> bool
-    ensures { λ r. ⌜ r ≡ samePosition p q ⌝ }
-{
-    both(both(p.x == q.x, p.y == q.y), p.z == q.z)
-}
-
-// Whether a ray's ends differ.
-fn ends_differ(ray: Ray) -> bool
-    ensures { λ r. ⌜ r ≡ endsDiffer ray ⌝ }
-{
-    !same_position(ray.start, ray.end)
-}
-
 // An answer, and one more question after it.
 fn also_ask(answer: Checked, number: u32, yes: bool) -> Checked
     ensures { λ r. ⌜ r ≡ alsoAsked answer number yes ⌝ }
@@ -87,17 +72,7 @@ fn also_ask(answer: Checked, number: u32, yes: bool) -> Checked
     }
 }
 
-// Questions 1 to 13, with the prepared numbers that questions 1 to 12 leave.
-fn load_hit(file: &[u8], ray: Ray, out: &mut [i64; PREPARED]) -> Checked
-    ensures answer { λ r. ⌜ r ≡ checkHit (now (file .entry)) ray ⌝ }
-    ensures numbers { λ _. ⌜ now (out .exit) ≡ loadedRay (now (file .entry)) ray (now (out .entry)) ⌝ }
-{
-    let answer = load_ray(file, ray, out);
-    let differ = ends_differ(ray);
-    also_ask(answer, 13, differ)
-}
-
-// Questions 1 to 14, with the same numbers.
+// Questions 1 to 12, then 14, with the prepared numbers that questions 1 to 12 leave.
 pub fn load_buffer(
     file: &[u8],
     ray: Ray,
@@ -108,7 +83,7 @@ pub fn load_buffer(
     ensures answer { λ r. ⌜ r ≡ checkBuffer (now (file .entry)) ray need room ⌝ }
     ensures numbers { λ _. ⌜ now (out .exit) ≡ loadedRay (now (file .entry)) ray (now (out .entry)) ⌝ }
 {
-    let answer = load_hit(file, ray, out);
+    let answer = load_ray(file, ray, out);
     also_ask(answer, 14, need <= room)
 }
 
@@ -261,7 +236,7 @@ pub fn first_hit(file: &[u8], ray: Ray, budget: u32) -> HitAnswer
 {
     let mut prepared = [0i64; PREPARED];
     let mut held = [0i64; HELD];
-    let checked = load_hit(file, ray, &mut prepared);
+    let checked = load_ray(file, ray, &mut prepared);
     match checked {
         Checked::Refused(number) => HitAnswer::Refused(number),
         Checked::Accepted(part) => {

@@ -20,6 +20,7 @@ use Rattle.halving.specs.Halving.{castLookedAt, handed}
 use Rattle.cast.specs.Ticks.{exponent, rayState}
 use Rattle.cast.specs.Questions.{bufferQuestions}
 use Rattle.cast.specs.Calls.{rayMarks, rayWalk, castAfter, fullCast, marksAfter, marksLeft}
+use Rattle.cast.specs.Demands.{BufferRefusal}
 use Rattle.cast.proofs.Ticks.{ray-nested, tick-mark}
 use Rattle.cast.proofs.Demands.{buffer-valid, buffer-refusal, marks-by}
 use Rattle.march.specs.Marching.{marchEnough}
@@ -61,7 +62,7 @@ module _ (solid : Solid) (ray : Ray) (k : ℕ) where
   alike-by (No n) budget lent valid = tt
 
   -- the demands of a marching cast of 2^k ticks, by the verdict of its questions
-  pub march-by : (v : Verdict) (budget : ℕ) (lent : List ℕ) → (v ≡ Yes → Valid solid) → ((n : ℕ) → v ≡ No n → (1 ≤ n) × (n ≤ 14))
+  pub march-by : (v : Verdict) (budget : ℕ) (lent : List ℕ) → (v ≡ Yes → Valid solid) → ((n : ℕ) → v ≡ No n → BufferRefusal n)
       → MarchDemands solid ray k budget (castAfter v (rayMarch solid ray k budget))
       (marksAfter v (2 ^ k) (rayMarch solid ray k budget) (marchedMarks solid ray k) lent)
   march-by v budget lent valid number = record {

@@ -11,7 +11,8 @@ use Rattle.halving.specs.declared.HitAnswer.{HitAnswer}
 use Rattle.cast.specs.declared.ColumnAnswer.{ColumnAnswer}
 use Rattle.cast.specs.Ticks.{exponent}
 use Rattle.cast.specs.Column.{columnBytes}
-use Rattle.cast.specs.Questions.{hitQuestions, bufferQuestions}
+use Rattle.loading.specs.Loading.{rayQuestions}
+use Rattle.cast.specs.Questions.{bufferQuestions}
 use Rattle.cast.specs.Calls.{castAfter, fullCast, hitAfter, firstHit, columnAfter, columnAnswer}
 use Rattle.cast.proofs.Calls.{CastPromised, HitPromised, ColumnPromised}
 use Rattle.march.specs.Calls.{marchingCast}
@@ -96,7 +97,7 @@ same-views file c t u (v, _) (w, _) = v .answer ∙ sym (w .answer)
 -- the questions of a call
 abbrev pub questionsOf : List ℕ → Call → ℕ → List Question
 questionsOf file (call.FullCast ray budget) room = bufferQuestions file ray (2 ^ exponent) room
-questionsOf file (call.FirstHit ray budget) room = hitQuestions file ray
+questionsOf file (call.FirstHit ray budget) room = rayQuestions file ray
 questionsOf file (call.Column ray) room = bufferQuestions file ray columnBytes room
 questionsOf file (call.MarchingCast ray budget) room = bufferQuestions file ray (2 ^ exponent) room
 

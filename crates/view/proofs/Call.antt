@@ -24,11 +24,10 @@ use Rattle.halving.specs.declared.HitAnswer.{HitAnswer}
 use Rattle.halving.specs.declared.HitAnswer.the-variants as found
 use Rattle.halving.specs.FirstHit.{hitLookedAt}
 use Rattle.cast.specs.Ticks.{exponent, rayState}
-use Rattle.cast.specs.Questions.{endsDiffer, hitQuestions}
 use Rattle.cast.specs.Calls.{rayHit, hitAfter, firstHit}
 use Rattle.cast.specs.Demands.{Sound, AloneHit, HitAt, CountedHit, SameOrder, PromptHit, FoundHit}
 use Rattle.halving.proofs.FirstHit.{Found}
-use Rattle.cast.proofs.Demands.{hit-valid, no-ticks, ray-found, hit-by, hit-within}
+use Rattle.cast.proofs.Demands.{ray-valid, no-ticks, ray-found, hit-by, hit-within}
 use Rattle.view.specs.Ray.{whole, endWhole, rayWhole, stepsRay}
 use Rattle.view.specs.Call.{floatQuestions, viewQuestions, viewOf, viewerTicks, viewerFirstHit}
 use Rattle.view.specs.Demands.{inTicks, CountedView, ViewDemands}
@@ -50,57 +49,39 @@ six true true false d e f = refl
 six true false c d e f = refl
 six false b c d e f = refl
 
--- a question after a verdict, and one more
-then : (v : Verdict) (b : Bool) (number : ℕ) (w : Verdict) → next (next v (cond b Yes (No number))) w ≡ next v (cond b w (No number))
-unfolding next
-then Yes true number w = refl
-then Yes false number w = refl
-then (No n) b number w = refl
-
--- question 13
-abbrev differs : ViewRay → Verdict
-differs ray = cond (endsDiffer (stepsRay ray)) Yes (No 13)
-
 module _ (file : List ℕ) (ray : ViewRay) where
-  view-verdict : firstNo (viewQuestions file ray) ≡ next (firstNo (fileQuestions file)) (cond (rayWhole ray) (differs ray) (No 15))
-  unfolding viewQuestions floatQuestions rayWhole endWhole firstNo
-  view-verdict =
-      firstNo-append (fileQuestions file ++ floatQuestions ray) ((13, endsDiffer (stepsRay ray)) ∷ [])
-      ∙ rw (
-        firstNo-append (fileQuestions file) (floatQuestions ray),
-        six (whole (ray .start .x)) (whole (ray .start .y)) (whole (ray .start .z)) (whole (ray .end .x)) (whole (ray .end .y)) (whole (ray .end .z)),
-      )
-      (then (firstNo (fileQuestions file)) (rayWhole ray) 15 (differs ray))
+  view-verdict : firstNo (viewQuestions file ray) ≡ next (firstNo (fileQuestions file)) (cond (rayWhole ray) Yes (No 15))
+  unfolding viewQuestions floatQuestions rayWhole endWhole
+  view-verdict = rw (
+    firstNo-append (fileQuestions file) (floatQuestions ray),
+    six (whole (ray .start .x)) (whole (ray .start .y)) (whole (ray .start .z)) (whole (ray .end .x)) (whole (ray .end .y)) (whole (ray .end .z)),
+  )
 
-  hit-verdict : firstNo (hitQuestions file (stepsRay ray)) ≡ next (firstNo (fileQuestions file)) (differs ray)
-  unfolding hitQuestions firstNo
-  hit-verdict =
-      firstNo-append (rayQuestions file (stepsRay ray)) ((13, endsDiffer (stepsRay ray)) ∷ [])
-      ∙ rw (ray-verdict file (stepsRay ray), ray-in ray) (then (firstNo (fileQuestions file)) true 12 (differs ray))
+  -- whole steps are in question 12's range
+  hit-verdict : firstNo (rayQuestions file (stepsRay ray)) ≡ next (firstNo (fileQuestions file)) Yes
+  hit-verdict = rw (ray-verdict file (stepsRay ray), ray-in ray)
 
   -- an accepted call is an accepted first hit's
-  hit-yes : firstNo (viewQuestions file ray) ≡ Yes → firstNo (hitQuestions file (stepsRay ray)) ≡ Yes
+  hit-yes : firstNo (viewQuestions file ray) ≡ Yes → firstNo (rayQuestions file (stepsRay ray)) ≡ Yes
   unfolding next
   hit-yes e = hit-verdict ∙ go (firstNo (fileQuestions file)) (rayWhole ray) (sym view-verdict ∙ e)
     where
-      go : (v : Verdict) (b : Bool) → next v (cond b (differs ray) (No 15)) ≡ Yes → next v (differs ray) ≡ Yes
-      go Yes true h = h
-      go Yes false h = no-is-not-yes h
+      go : (v : Verdict) (b : Bool) → next v (cond b Yes (No 15)) ≡ Yes → next v Yes ≡ Yes
+      go Yes b h = refl
       go (No n) b h = h
 
   -- a refused one's number
   abbrev Number : ℕ → Type 0
-  Number n = ((1 ≤ n) × (n ≤ 11)) ⊎ ((n ≡ 13) ⊎ (n ≡ 15))
+  Number n = ((1 ≤ n) × (n ≤ 11)) ⊎ (n ≡ 15)
 
   refusal : {n : ℕ} → firstNo (viewQuestions file ray) ≡ No n → Number n
   unfolding next
-  refusal {n} e = go (firstNo (fileQuestions file)) refl (rayWhole ray) (endsDiffer (stepsRay ray)) (sym view-verdict ∙ e)
+  refusal {n} e = go (firstNo (fileQuestions file)) refl (rayWhole ray) (sym view-verdict ∙ e)
     where
-      go : (v : Verdict) → firstNo (fileQuestions file) ≡ v → (b d : Bool) → next v (cond b (cond d Yes (No 13)) (No 15)) ≡ No n → Number n
-      go Yes f true true h = no-is-not-yes (sym h)
-      go Yes f true false h = inr (inl cc)
-      go Yes f false d h = inr (inr cc)
-      go (No m) f b d h = inl (no-numbered 1 11 (fileQuestions file) (file-numbered 11 (omega arith) file) (f ∙ h))
+      go : (v : Verdict) → firstNo (fileQuestions file) ≡ v → (b : Bool) → next v (cond b Yes (No 15)) ≡ No n → Number n
+      go Yes f true h = no-is-not-yes (sym h)
+      go Yes f false h = inr cc
+      go (No m) f b h = inl (no-numbered 1 11 (fileQuestions file) (file-numbered 11 (omega arith) file) (f ∙ h))
 
   abbrev steps : Ray
   steps = stepsRay ray
@@ -147,7 +128,7 @@ module _ (file : List ℕ) (ray : ViewRay) where
       where
         go : (v : Verdict) → firstNo (viewQuestions file ray) ≡ v → DemandsMet (hitAfter v (solidOf file) steps k budget)
         go Yes e =
-            let valid = hit-valid file steps (hit-yes e) in
+            let valid = ray-valid file steps (hit-yes e) in
             let d = hit-by (solidOf file) steps k budget Yes (λ y. valid) (λ n f. no-is-not-yes (sym f)) in
             let a = rayHit (solidOf file) steps k budget in
             record {

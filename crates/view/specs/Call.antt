@@ -8,7 +8,6 @@ use Rattle.field.specs.Solid.{solidOf}
 use Rattle.halving.specs.declared.HitAnswer.{HitAnswer}
 use Rattle.halving.specs.declared.HitAnswer.the-variants as found
 use Rattle.cast.specs.Ticks.{exponent}
-use Rattle.cast.specs.Questions.{endsDiffer}
 use Rattle.cast.specs.Calls.{hitAfter}
 use Rattle.view.specs.Floats.{placeOf}
 use Rattle.view.specs.Ray.{whole, stepsRay}
@@ -27,9 +26,9 @@ floatQuestions ray =
     ∷ (15, whole (ray .end .z))
     ∷ []
 
--- "The viewer's call asks 1 to 11, then 15, then 13."
+-- "The viewer's call asks 1 to 11, then 15"; its 13 "now never says no" (document 02, P8) and is not asked
 unfoldable pub viewQuestions : List ℕ → ViewRay → List Question
-viewQuestions file ray = fileQuestions file ++ floatQuestions ray ++ (13, endsDiffer (stepsRay ray)) ∷ []
+viewQuestions file ray = fileQuestions file ++ floatQuestions ray
 
 -- the viewer's values for each case of a first hit: "entry as a float equal to h/1024 exactly with the mark of tick h, or spent with the tick reached
 -- over 1024, or refused with a number; unless refused, the probes come with it"

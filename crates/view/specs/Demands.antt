@@ -31,9 +31,9 @@ ExactPlace ticks (view.Clear probes) = Unit {0}
 ExactPlace ticks (view.Spent place probes) = Equals place (pos (tickAt ticks place)) ticks
 
 module _ (file : List ℕ) (ray : ViewRay) (k budget : ℕ) where
-  -- the probes are a first hit's. A refusal is 1 to 11, 13 or 15.
+  -- the probes are a first hit's. A refusal is 1 to 11 or 15.
   unfoldable pub CountedView : ViewAnswer → Type 0
-  CountedView (view.Refused number) = ((1 ≤ number) × (number ≤ 11)) ⊎ (number ≡ 13) ⊎ (number ≡ 15)
+  CountedView (view.Refused number) = ((1 ≤ number) × (number ≤ 11)) ⊎ (number ≡ 15)
   CountedView (view.Hit entry mark probes) = CountedHit (solidOf file) (stepsRay ray) k budget (inTicks (2 ^ k) (view.Hit entry mark probes))
   CountedView (view.Clear probes) = CountedHit (solidOf file) (stepsRay ray) k budget (inTicks (2 ^ k) (view.Clear probes))
   CountedView (view.Spent place probes) = CountedHit (solidOf file) (stepsRay ray) k budget (inTicks (2 ^ k) (view.Spent place probes))

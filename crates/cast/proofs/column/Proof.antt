@@ -4,10 +4,11 @@ use lib.ListN.{length}
 use native.Mathlib.Omega.{arith}
 use borrow.Author.Needs.{needs}
 use Rattle.part.specs.declared.Checked.the-variants.{Accepted}
+use Rattle.loading.specs.Loading.{checkRay}
 use Rattle.cast.specs.Ticks.{exponent}
 use Rattle.cast.specs.Column.{columnBytes}
-use Rattle.cast.specs.Questions.{checkHit, checkBuffer}
-use Rattle.cast.proofs.Calls.{hit-accepted, room-enough, prepared-long, searchable, states-are, bits-are}
+use Rattle.cast.specs.Questions.{checkBuffer}
+use Rattle.cast.proofs.Calls.{ray-accepted, room-enough, prepared-long, searchable, states-are, bits-are}
 use Rattle.cast.proofs.Calls.{column-refused, column-made}
 use Rattle.cast.proofs.column.Statement.{statement}
 use Rattle.cast.proofs.column.Tie as tie
@@ -20,8 +21,8 @@ buffer : (c : tie.After-checked2) → let a = start c .args in
     checkBuffer (a .file .now) (a .ray) columnBytes (length (a .bits .now)) ≡ Accepted (c .checked2 .given .0 .0)
 buffer c = sym (c .before .before .load-buffer .ensures .0) ∙ c .checked2 .given .1
 
-accepted : (c : tie.After-checked2) → checkHit (start c .args .file .now) (start c .args .ray) ≡ Accepted (c .checked2 .given .0 .0)
-accepted c = hit-accepted _ _ _ _ (buffer c)
+accepted : (c : tie.After-checked2) → checkRay (start c .args .file .now) (start c .args .ray) ≡ Accepted (c .checked2 .given .0 .0)
+accepted c = ray-accepted _ _ _ _ (buffer c)
 
 pub column-spec : {M : Type 1} → statement M
 column-spec =

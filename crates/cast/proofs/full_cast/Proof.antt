@@ -5,9 +5,10 @@ use Prim.Native.Nat.{_^_}
 use native.Mathlib.Omega.{arith}
 use borrow.Author.Needs.{needs}
 use Rattle.part.specs.declared.Checked.the-variants.{Accepted}
+use Rattle.loading.specs.Loading.{checkRay}
 use Rattle.cast.specs.Ticks.{exponent}
-use Rattle.cast.specs.Questions.{checkHit, checkBuffer}
-use Rattle.cast.proofs.Calls.{whole, hit-accepted, room-enough, prepared-long, searchable, states-are, cast-refused, cast-made}
+use Rattle.cast.specs.Questions.{checkBuffer}
+use Rattle.cast.proofs.Calls.{whole, ray-accepted, room-enough, prepared-long, searchable, states-are, cast-refused, cast-made}
 use Rattle.cast.proofs.full_cast.Statement.{statement}
 use Rattle.cast.proofs.full_cast.Tie as tie
 
@@ -19,8 +20,8 @@ buffer : (c : tie.After-checked2) → let a = start c .args in
     checkBuffer (a .file .now) (a .ray) (2 ^ exponent) (length (a .marks .now)) ≡ Accepted (c .checked2 .given .0 .0)
 buffer c = sym (c .before .before .load-buffer .ensures .0) ∙ c .checked2 .given .1
 
-accepted : (c : tie.After-checked2) → checkHit (start c .args .file .now) (start c .args .ray) ≡ Accepted (c .checked2 .given .0 .0)
-accepted c = hit-accepted _ _ _ _ (buffer c)
+accepted : (c : tie.After-checked2) → checkRay (start c .args .file .now) (start c .args .ray) ≡ Accepted (c .checked2 .given .0 .0)
+accepted c = ray-accepted _ _ _ _ (buffer c)
 
 pub full-cast-spec : {M : Type 1} → statement M
 full-cast-spec =

@@ -5,9 +5,10 @@ use Prim.Native.Nat.{_^_}
 use native.Mathlib.Omega.{arith}
 use borrow.Author.Needs.{needs}
 use Rattle.part.specs.declared.Checked.the-variants.{Accepted}
+use Rattle.loading.specs.Loading.{checkRay}
 use Rattle.cast.specs.Ticks.{exponent}
-use Rattle.cast.specs.Questions.{checkHit, checkBuffer}
-use Rattle.cast.proofs.Calls.{hit-accepted, room-enough, prepared-long, searchable, states-are}
+use Rattle.cast.specs.Questions.{checkBuffer}
+use Rattle.cast.proofs.Calls.{ray-accepted, room-enough, prepared-long, searchable, states-are}
 use Rattle.march.proofs.Calls.{march-refused, march-made}
 use Rattle.march.proofs.marching_cast.Statement.{statement}
 use Rattle.march.proofs.marching_cast.Tie as tie
@@ -20,8 +21,8 @@ buffer : (c : tie.After-checked2) → let a = start c .args in
     checkBuffer (a .file .now) (a .ray) (2 ^ exponent) (length (a .marks .now)) ≡ Accepted (c .checked2 .given .0 .0)
 buffer c = sym (c .before .before .load-buffer .ensures .0) ∙ c .checked2 .given .1
 
-accepted : (c : tie.After-checked2) → checkHit (start c .args .file .now) (start c .args .ray) ≡ Accepted (c .checked2 .given .0 .0)
-accepted c = hit-accepted _ _ _ _ (buffer c)
+accepted : (c : tie.After-checked2) → checkRay (start c .args .file .now) (start c .args .ray) ≡ Accepted (c .checked2 .given .0 .0)
+accepted c = ray-accepted _ _ _ _ (buffer c)
 
 pub marching-cast-spec : {M : Type 1} → statement M
 marching-cast-spec =
