@@ -35,7 +35,7 @@ use Rattle.cast.specs.declared.ColumnAnswer.{ColumnAnswer}
 use Rattle.cast.specs.declared.ColumnAnswer.the-variants as column
 use Rattle.halving.specs.Numbers.{castNumber, hitNumber}
 use Rattle.cast.specs.Column.{columnNumber}
-use Rattle.cast.specs.Demands.{AloneHit, Counted, CountedHit, CountedColumn}
+use Rattle.cast.specs.Demands.{BufferRefusal, AloneHit, Counted, CountedHit, CountedColumn}
 use Rattle.cast.proofs.Ticks.{mark-few}
 use Rattle.view.specs.declared.ViewRay.{ViewRay}
 use Rattle.view.specs.Ray.{stepsRay}
@@ -61,11 +61,16 @@ pub hosts-ray : (ax ay az bx by bz : ℤ) {ray : Ray}
 hosts-ray ax ay az bx by bz f g h i j k e =
     e ∙ simp (toZ-ofZ f, toZ-ofZ g, toZ-ofZ h, toZ-ofZ i, toZ-ofZ j, toZ-ofZ k)
 
+-- the number of a refusal by a buffer's questions
+refusal-few : {n : ℕ} → BufferRefusal n → n ≤ 14
+refusal-few (inl (low, high)) = omega arith
+refusal-few (inr e) = omega arith
+
 -- a cast that hands over marks, with at most `most` probes
 pub cast-number-fits : (T count : ℕ) {most : ℕ} (budget : ℕ) → most < 2 ^ 16 → (w : CastAnswer) → Counted T count most budget w
     → castNumber w < 2 ^ 32
 unfolding castNumber Counted
-cast-number-fits T count budget few (cast.Refused n) (low, high) = omega arith
+cast-number-fits T count budget few (cast.Refused n) refusal = omega (arith, refusal-few refusal)
 cast-number-fits T count budget few (cast.Complete p) (is, in-budget, at-most) = omega (arith, few)
 cast-number-fits T count budget few (cast.Spent t p) (before, all, more, at-most) = omega (arith, few)
 
@@ -79,7 +84,7 @@ module _ (solid : Solid) (ray : Ray) (k : ℕ) (few : 2 ^ k ≤ 4096) where
 
   pub column-number-fits : (w : ColumnAnswer) → CountedColumn solid ray k w → columnNumber w < 2 ^ 32
   unfolding columnNumber CountedColumn
-  column-number-fits (column.Refused n) (low, high) = omega arith
+  column-number-fits (column.Refused n) refusal = omega (arith, refusal-few refusal)
   column-number-fits (column.Complete p) (is, most) = omega (arith, few)
 
 -- ---- the check of a file and the bounds at a place
@@ -114,7 +119,7 @@ module _ (file : List ℕ) where
       where
         go : (a : HitAnswer) → AloneHit (solidOf file) (stepsRay ray) (2 ^ k) a → CountedView file ray k budget (viewOf (2 ^ k) a)
             → hitNumber a < 2 ^ 64
-        go (found.Refused n) alone c = elim c [ inl c ↦ omega (arith, c .1) | inr c ↦ elim c [ inl c ↦ omega (arith, c) | inr c ↦ omega (arith, c) ] ]
+        go (found.Refused n) alone c = elim c [ inl c ↦ omega (arith, c .1) | inr c ↦ omega (arith, c) ]
         go (found.Hit t s p) alone c = hit-number-fits (solidOf file) (stepsRay ray) k few budget (found.Hit t s p) alone c
         go (found.Clear p) alone c = hit-number-fits (solidOf file) (stepsRay ray) k few budget (found.Clear p) alone c
         go (found.Spent t p) alone c = hit-number-fits (solidOf file) (stepsRay ray) k few budget (found.Spent t p) alone c
