@@ -4,5 +4,6 @@ pub mod Middles
 pub mod Ticks
 pub mod Demands
 pub mod Cost
+pub mod NoLength
 pub mod Columns
 pub mod Calls

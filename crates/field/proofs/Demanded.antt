@@ -40,7 +40,7 @@ point-same ray p h =
     let e = crossed (pos (natAbs (p .weight))) (pos (extent ray)) (pos (radius p)) in
     record { proper = omega arith; at-most = record { cross = ≤ℤ-of-eq e }; at-least = record { cross = ≤ℤ-of-eq (sym e) } }
 
-sum-same : (f g : Node → Fraction) → ((p : Node) → PointRanges p → Same (f p) (g p))
+pub sum-same : (f g : Node → Fraction) → ((p : Node) → PointRanges p → Same (f p) (g p))
     → (is : List (Item Node)) (held : ℕ) → Postfix PointRanges is held → Same (sumOver f is) (sumOver g is)
 unfolding Postfix sumOver
 sum-same f g same [] held h = record { proper = omega arith; at-most = record { cross = nn-pos 0 }; at-least = record { cross = nn-pos 0 } }

@@ -20,3 +20,4 @@ pub mod Demanded
 pub mod Marks
 pub mod Quotients
 pub mod Solids
+pub mod NoLength

@@ -4,6 +4,7 @@
 use mathlib.Core.Path.{_≡_}
 use Prim.Native.Nat.{ℕ, _≤_}
 use native.Mathlib.Omega.{arith}
+use Rattle.exact.specs.Fraction.{Fraction}
 use Rattle.exact.proofs.Fractions.{≼-trans}
 use Rattle.field.specs.declared.Ray.{Ray}
 use Rattle.field.specs.Ray.{tick, Place}
@@ -16,9 +17,18 @@ use Rattle.field.specs.Tolerance.{sumOver, demanded, demandedIn1024}
 use Rattle.field.specs.Marks.{spanState, markOf, SoundMark}
 use Rattle.field.proofs.Width.{tick-ordered}
 use Rattle.field.proofs.States.{state-sound}
-use Rattle.field.proofs.Demanded.{demanded-1024}
+use Rattle.field.proofs.Demanded.{Same, demanded-1024}
 use Rattle.field.proofs.Enclosure.{enclosure}
 use Rattle.field.proofs.Tolerance.{narrow-tick}
+
+-- what a mark says with one tolerance it says with another that is the same
+pub sound-same : {iso mark : ℕ} {field x y : Fraction} → SoundMark iso mark field x → Same x y → SoundMark iso mark field y
+sound-same m d = record {
+  proper = (m .proper .0, d .proper);
+  empty = m .empty;
+  inside = m .inside;
+  crossing = λ g. ≼-trans (m .proper .1) (m .crossing g) (d .at-most);
+}
 
 module _ (solid : Solid) (valid : Valid solid) (ray : Ray) where
   pub marks : (t : ℕ) {T : ℕ} → 1 ≤ T → (x : Place (tick t T))
@@ -31,12 +41,4 @@ module _ (solid : Solid) (valid : Valid solid) (ray : Ray) where
   -- with demand 3's own figures
   pub marks-1024 : solid .kernel ≡ quartic → (t : ℕ) (x : Place (tick t 1024))
       → SoundMark (solid .iso) (markOf solid ray 1024 t) (fieldAt solid ray (x .n) (x .m)) (sumOver (demandedIn1024 ray) (items (solid .nodes)))
-  marks-1024 degree t x =
-      let m = marks t (omega arith) x in
-      let d = demanded-1024 solid (valid .tree) degree ray in
-      record {
-        proper = (m .proper .0, d .proper);
-        empty = m .empty;
-        inside = m .inside;
-        crossing = λ g. ≼-trans (m .proper .1) (m .crossing g) (d .at-most);
-      }
+  marks-1024 degree t x = sound-same (marks t (omega arith) x) (demanded-1024 solid (valid .tree) degree ray)

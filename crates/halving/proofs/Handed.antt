@@ -1,15 +1,23 @@
--- What a cast hands over: the marks of the ticks that it looked at, stored from the buffer's start on, and then 3 for the others.
+-- What a cast hands over: the marks of the ticks that it looked at, stored from the buffer's start on, and then 3 for the others (`handed-over`); of a
+-- complete one, every mark (`handed-all`).
 use Prim.Native.Nat.{ℕ, _+_, _-_, _≤_}
 use mathlib.Core.Path.{_≡_, sym, ap, _∙_}
-use mathlib.Core.List.{List, _++_}
+use mathlib.Core.List.{List, _++_, append-nil}
 use native.Mathlib.Omega.{arith}
-use native.Mathlib.Nat.{zero-add}
+use native.Mathlib.Nat.{zero-add, le-of-eq}
 use lib.ListN.{length, take, drop, replicate, length-append, length-replicate}
-use lib.Seq.{sets, length-take-le}
+use lib.Seq.{sets, length-take-le, take-all}
 use Rattle.exact.proofs.Buffers.{sets-append, sets-whole}
 use Rattle.field.specs.Bounds.{notLookedAt}
 use Rattle.halving.specs.declared.CastAnswer.{CastAnswer}
+use Rattle.halving.specs.declared.CastAnswer.the-variants.{Complete}
 use Rattle.halving.specs.Halving.{castLookedAt, handed}
+
+pub handed-all : (n p : ℕ) (ms : List ℕ) → length ms ≡ n → handed n (Complete p) ms ≡ ms
+unfolding handed castLookedAt
+handed-all n p ms all =
+    let none : n - n ≡ 0 = omega arith in
+    ap (λ (k : ℕ). take n ms ++ replicate k notLookedAt) none ∙ append-nil (take n ms) ∙ take-all n ms (le-of-eq all)
 
 -- of n ticks with the marks ms, of which a cast that answers w looked at some
 pub handed-over : (n : ℕ) (w : CastAnswer) (ms : List ℕ) → length ms ≡ n → castLookedAt n w ≤ n → (out l l′ : List ℕ) → n ≤ length out

@@ -3,6 +3,7 @@ pub mod FirstHit
 pub mod SameOrder
 pub mod Cost
 pub mod Worst
+pub mod Uniform
 pub mod Handed
 pub mod Span
 pub mod Within

@@ -1,12 +1,11 @@
 -- Demands 2 and 3 on the marching cast's definitions (`march-demands`): by the laws of the search, and by what `cast` shows of every cast that hands
 -- over marks (`marks-by`). And that an unspent march and an unspent full cast leave the same bytes (`same-bytes`).
-use mathlib.Core.Path.{_≡_, refl, sym, ap, _∙_}
-use mathlib.Core.List.{List, _++_, append-nil}
-use Prim.Native.Nat.{ℕ, _-_, _^_, _≤_}
+use mathlib.Core.Path.{_≡_, refl, ap, _∙_}
+use mathlib.Core.List.{List, _++_}
+use Prim.Native.Nat.{ℕ, _-_, _^_}
 use native.Mathlib.Omega.{arith}
-use native.Mathlib.Nat.{le-of-eq}
 use lib.ListN.{length, take, drop, replicate}
-use lib.Seq.{take-at, take-all}
+use lib.Seq.{take-at}
 use lib.Pow.{pow-pos}
 use Rattle.record.specs.Questions.{firstNo}
 use Rattle.record.specs.declared.Verdict.{Verdict}
@@ -17,6 +16,7 @@ use Rattle.field.specs.Bounds.{notLookedAt}
 use Rattle.halving.specs.declared.CastAnswer.{CastAnswer}
 use Rattle.halving.specs.declared.CastAnswer.the-variants as cast
 use Rattle.halving.specs.Halving.{castLookedAt, handed}
+use Rattle.halving.proofs.Handed.{handed-all}
 use Rattle.cast.specs.Ticks.{exponent, rayState}
 use Rattle.cast.specs.Questions.{bufferQuestions}
 use Rattle.cast.specs.Calls.{rayMarks, rayWalk, castAfter, fullCast, marksAfter, marksLeft}
@@ -33,18 +33,8 @@ module _ (solid : Solid) (ray : Ray) (k : ℕ) where
   st = rayState solid ray (2 ^ k)
 
   -- "its marks equal the halving full cast's"
-  equal-marks : Valid solid → marchedMarks solid ray k ≡ rayMarks solid ray k
+  pub equal-marks : Valid solid → marchedMarks solid ray k ≡ rayMarks solid ray k
   equal-marks valid = marks-equal st (2 ^ k) (ray-nested solid valid ray (pow-pos k)) k refl
-
-  -- what an unspent march hands over are its marks
-  all-handed : (p : ℕ) → handed (2 ^ k) (cast.Complete p) (marchedMarks solid ray k) ≡ marchedMarks solid ray k
-  unfolding handed castLookedAt
-  all-handed p =
-      let ms = marchedMarks solid ray k in
-      let none : 2 ^ k - 2 ^ k ≡ 0 = omega arith in
-      ap (λ (n : ℕ). take (2 ^ k) ms ++ replicate n notLookedAt) none
-      ∙ append-nil (take (2 ^ k) ms)
-      ∙ take-all (2 ^ k) ms (le-of-eq (length-march st (2 ^ k)))
 
   alike-by : (v : Verdict) (budget : ℕ) (lent : List ℕ) → (v ≡ Yes → Valid solid)
       → Alike solid ray k (castAfter v (rayMarch solid ray k budget))
@@ -55,7 +45,7 @@ module _ (solid : Solid) (ray : Ray) (k : ℕ) where
       go : (w : CastAnswer) → Alike solid ray k w (handed (2 ^ k) w (marchedMarks solid ray k) ++ drop (2 ^ k) lent)
       go (cast.Refused n) = tt
       go (cast.Complete p) =
-          ap (λ (l : List ℕ). take (2 ^ k) (l ++ drop (2 ^ k) lent)) (all-handed p)
+          ap (λ (l : List ℕ). take (2 ^ k) (l ++ drop (2 ^ k) lent)) (handed-all (2 ^ k) p (marchedMarks solid ray k) (length-march st (2 ^ k)))
           ∙ take-at (marchedMarks solid ray k) (drop (2 ^ k) lent) (2 ^ k) (length-march st (2 ^ k))
           ∙ equal-marks (valid refl)
       go (cast.Spent t p) = tt

@@ -4,3 +4,4 @@ pub mod Turns
 pub mod Demands
 pub mod Within
 pub mod Calls
+pub mod NoLength

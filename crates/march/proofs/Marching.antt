@@ -324,13 +324,17 @@ module _ (state : ℕ → ℕ → ℕ) (T : ℕ) where
         go (Complete p) (is, few) = (is ∙ zero-add (marchCount state T), few, count-most (marchEnough T))
         go (Spent t p) (is, more, from, before) = (before, is ∙ zero-add b, more, count-most (marchEnough T))
 
-    -- a budget of 2 T + 4 is always enough
-    pub always-enough : marchEnough T ≤ b → march state T b ≡ Complete (marchCount state T)
-    always-enough h = go (march state T b) whole
+    -- with budget enough the march is complete, with the count's probes
+    pub enough : marchCount state T ≤ b → march state T b ≡ Complete (marchCount state T)
+    enough h = go (march state T b) whole
       where
         go : (w : CastAnswer) → Walked (marchEnough T) b 0 firstLength 0 w → w ≡ Complete (marchCount state T)
         go (Complete p) (is, few) = ap Complete (is ∙ zero-add (marchCount state T))
-        go (Spent t p) (is, more, from, before) = absurd (omega (arith, count-most (marchEnough T)))
+        go (Spent t p) (is, more, from, before) = absurd (omega arith)
+
+    -- a budget of 2 T + 4 is always enough
+    pub always-enough : marchEnough T ≤ b → march state T b ≡ Complete (marchCount state T)
+    always-enough h = enough (omega (arith, count-most (marchEnough T)))
 
   -- ---- the marks
 

@@ -5,12 +5,13 @@ use native.Mathlib.Omega.{arith}
 use native.Mathlib.Decide.{decLe}
 use native.Mathlib.Nat.{min-eq-left}
 use Rattle.field.specs.Bounds.{crossingMark}
+use Rattle.halving.proofs.Uniform.{uniform}
 use Rattle.march.specs.Marching.{firstLength, marchEnough, cut, countFrom, marchCount}
 use Rattle.march.proofs.Marching.{Halved, Finished, halved, finished, count-end, count-probe}
 
--- the state of a ray of which every span is undecided
-abbrev pub undecided : ℕ → ℕ → ℕ
-undecided i n = crossingMark
+-- every span is undecided
+abbrev undecided : ℕ → ℕ → ℕ
+undecided = uniform crossingMark
 
 module _ (T : ℕ) where
   abbrev count : ℕ → ℕ → ℕ → ℕ
@@ -44,7 +45,7 @@ module _ (T : ℕ) where
             omega (arith, first, once-passed f (i + 1) 2 (omega arith) e, count-end undecided T f (i + 1 + 1) 2 (omega arith))
       ]
 
-  pub worst : firstLength ≤ T → marchCount undecided T ≡ marchEnough T
+  pub worst : firstLength ≤ T → marchCount (uniform crossingMark) T ≡ marchEnough T
   worst h =
       let e : 2 * T + 4 ≡ suc (suc (suc (suc (suc (suc (2 * T - 2)))))) = omega arith in
       let f = 2 * T - 2 in

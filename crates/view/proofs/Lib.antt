@@ -6,3 +6,4 @@ pub mod Whole
 pub mod Coordinates
 pub mod Places
 pub mod Call
+pub mod NoLength
