@@ -26,7 +26,7 @@ use Rattle.cast.specs.declared.ColumnAnswer.{ColumnAnswer}
 use Rattle.cast.specs.declared.ColumnAnswer.the-variants.{Refused, Complete}
 use Rattle.cast.specs.Ticks.{exponent, rayState}
 use Rattle.cast.specs.Column.{middleSolid, tickBit, bitOf, fromBits, packed}
-use Rattle.cast.specs.Questions.{endsDiffer, hitQuestions, bufferQuestions}
+use Rattle.cast.specs.Questions.{bufferQuestions}
 use Rattle.cast.specs.Calls.{rayMarks, columnAfter, columnAnswer, bitsAfter, bitsLeft}
 use Rattle.cases.proofs.Rays.{onePoint, fileK, at, across}
 
@@ -67,8 +67,7 @@ rows =
       (Complete 39, replicate 47 0 ++ 0x80 ∷ replicate 32 0xff ++ replicate 48 0),
     )
     ∷ (request strut wide bits, (Complete 39, replicate 128 0))
-    -- refused: "A = B: 13", "Coordinate 2,048: 12", a buffer of 127
-    ∷ (request fileK (record { start = at (pos 1) (pos 2); end = at (pos 1) (pos 2) }) bits, (Refused 13, bits))
+    -- refused: "Coordinate 2,048: 12", a buffer of 127
     ∷ (request fileK (across (pos 2048)) bits, (Refused 12, bits))
     ∷ (request fileK (across (pos 0)) (replicate 127 0xa5), (Refused 14, replicate 127 0xa5))
     ∷ []
@@ -79,7 +78,7 @@ unfolding
     recordQuestions recordsQuestions iso version distance marked trailerQuestions start count nodeAt zeroBytes recordAt recordsFrom records
     nodesFrom nodes fileQuestions ceil maxℤ operatorOf itemOf items joinTop step run treeValue kernelOf raySquare
     prepare distanceAt footInside footDistance lowQ highQ qlo qhi weighted pointBounds joinBounds treeBounds stateOf spanState markOf
-    positionInRange rayInRange rayQuestions probeCount rayState endsDiffer hitQuestions bufferQuestions solidBy middleSolid tickBit bitOf
+    positionInRange rayInRange rayQuestions probeCount rayState bufferQuestions solidBy middleSolid tickBit bitOf
     fromBits packed columnAfter columnAnswer bitsAfter bitsLeft
 columns = refl
 

@@ -27,7 +27,6 @@ use Rattle.halving.specs.declared.HitAnswer.{HitAnswer}
 use Rattle.halving.specs.declared.HitAnswer.the-variants.{Hit, Spent}
 use Rattle.halving.specs.FirstHit.{hit}
 use Rattle.cast.specs.Ticks.{rayState}
-use Rattle.cast.specs.Questions.{endsDiffer, hitQuestions}
 use Rattle.cast.specs.Calls.{hitAfter, firstHit}
 use Rattle.cast.specs.Demands.{Empty, FirstNotEmpty, HitAt}
 use Rattle.cases.proofs.Rays.{fileK, at}
@@ -61,7 +60,7 @@ unfolding
     recordQuestions recordsQuestions iso version distance marked trailerQuestions start count nodeAt zeroBytes recordAt recordsFrom records
     nodesFrom nodes fileQuestions ceil maxℤ operatorOf itemOf items joinTop step run treeValue kernelOf raySquare
     prepare distanceAt footInside footDistance lowQ highQ qlo qhi weighted pointBounds joinBounds treeBounds stateOf spanState
-    positionInRange rayInRange rayQuestions hit rayState endsDiffer hitQuestions hitAfter firstHit
+    positionInRange rayInRange rayQuestions hit rayState hitAfter firstHit
 costs = refl
 
 -- ---- no smaller constant
@@ -74,7 +73,7 @@ unfolding
     recordQuestions recordsQuestions iso version distance marked trailerQuestions start count nodeAt zeroBytes recordAt recordsFrom records
     nodesFrom nodes fileQuestions ceil maxℤ operatorOf itemOf items joinTop step run treeValue kernelOf raySquare
     prepare distanceAt footInside footDistance lowQ highQ qlo qhi weighted pointBounds joinBounds treeBounds stateOf spanState markOf
-    positionInRange rayInRange rayQuestions hit rayState endsDiffer hitQuestions hitAfter firstHit
+    positionInRange rayInRange rayQuestions hit rayState hitAfter firstHit
 start-is = (refl, refl, refl)
 
 pub least-cost : (c : ℕ)

@@ -20,7 +20,6 @@ use Rattle.field.specs.Bounds.{weighted, pointBounds, joinBounds, treeBounds, s
 use Rattle.field.specs.Marks.{spanState}
 use Rattle.halving.specs.FirstHit.{hit}
 use Rattle.cast.specs.Ticks.{rayState}
-use Rattle.cast.specs.Questions.{endsDiffer}
 use Rattle.cast.specs.Calls.{hitAfter}
 use Rattle.view.specs.declared.Steps.{Steps}
 use Rattle.view.specs.declared.Steps.the-variants.{Whole, Refused}
@@ -91,8 +90,9 @@ rays =
     -- −363/64 mm to 661/64 mm, which starts in a crossing tick: 11 probes, the figure of tick 0 (document 02, P7), and spent with 10
     ∷ (along 0xc0b5_8000 0x4125_4000 0, 11, view.Hit (float 0) 1 11)
     ∷ (along 0xc0b5_8000 0x4125_4000 0, 10, view.Spent (float 0) 10)
-    -- A = B, with 0 and minus zero; and a float that is not whole steps at both ends
-    ∷ (along 0x3f80_0000 0x3f80_0000 0, 2047, view.Refused 13)
+    -- A = B, with 0 and minus zero (document 02, P8): 64 steps from the centre; and a float that is not whole steps at both ends
+    ∷ (along 0x3f80_0000 0x3f80_0000 0, 1, view.Hit (float 0) 2 1)
+    ∷ (along 0x3f80_0000 0x3f80_0000 0, 0, view.Spent (float 0) 0)
     ∷ (along 0x3c7f_ffff 0x3c7f_ffff 0, 2047, view.Refused 15)
     -- 2,048/64 mm
     ∷ (along 0 0x4200_0000 0, 2047, view.Refused 15)
@@ -107,6 +107,6 @@ unfolding
     rays ofBits round u16 u32 i16 hasBytes zeros firstNo isPoint kindKnown coordinate inRange forPoint forOperator heldAfter nodeQuestions
     recordQuestions recordsQuestions iso version distance marked trailerQuestions start count nodeAt zeroBytes recordAt recordsFrom records
     nodesFrom nodes fileQuestions ceil maxℤ operatorOf itemOf items joinTop step run treeValue raySquare prepare distanceAt footInside
-    footDistance lowQ highQ qlo qhi weighted pointBounds joinBounds treeBounds stateOf hit kernelOf spanState rayState endsDiffer hitAfter
+    footDistance lowQ highQ qlo qhi weighted pointBounds joinBounds treeBounds stateOf hit kernelOf spanState rayState hitAfter
     placeOf stepsOf wholeSteps whole coordinateOf positionOf stepsRay floatQuestions viewQuestions viewOf viewerTicks viewerFirstHit
 seen = refl

@@ -26,7 +26,7 @@ use Rattle.halving.specs.declared.CastAnswer.{CastAnswer}
 use Rattle.halving.specs.declared.CastAnswer.the-variants.{Refused, Complete, Spent}
 use Rattle.halving.specs.Halving.{castLookedAt, handed}
 use Rattle.cast.specs.Ticks.{exponent, rayState}
-use Rattle.cast.specs.Questions.{endsDiffer, hitQuestions, bufferQuestions}
+use Rattle.cast.specs.Questions.{bufferQuestions}
 use Rattle.cast.specs.Calls.{castAfter, marksAfter}
 use Rattle.march.specs.Marching.{marchEnough, nextTick, nextLength, countFrom, marksFrom, walkFrom, marchMarks, march}
 use Rattle.march.specs.Marching as marching
@@ -107,8 +107,7 @@ rows =
     -- "The same ray at y = 512", and "At y = 362"
     ∷ (request (across (pos 512)) 2052 marks, (Complete 5, replicate 1024 emptyMark))
     ∷ (request (across (pos 362)) 2052 marks, (Complete 37, near))
-    -- refused as a full cast is: "A = B: 13", "Coordinate 2,048: 12", "A buffer of 1,023 gives 14."
-    ∷ (request (record { start = at (pos 1) (pos 2); end = at (pos 1) (pos 2) }) 49 marks, (Refused 13, marks))
+    -- refused as a full cast is: "Coordinate 2,048: 12", "A buffer of 1,023 gives 14."
     ∷ (request (across (pos 2048)) 49 marks, (Refused 12, marks))
     ∷ (request (across (pos 0)) 49 (replicate 1023 7), (Refused 14, replicate 1023 7))
     ∷ []
@@ -119,7 +118,7 @@ unfolding
     recordQuestions recordsQuestions iso version distance marked trailerQuestions start count nodeAt zeroBytes recordAt recordsFrom records
     nodesFrom nodes fileQuestions ceil maxℤ operatorOf itemOf items joinTop step run treeValue kernelOf raySquare
     prepare distanceAt footInside footDistance lowQ highQ qlo qhi weighted pointBounds joinBounds treeBounds stateOf spanState
-    positionInRange rayInRange rayQuestions castLookedAt handed rayState endsDiffer hitQuestions bufferQuestions castAfter marksAfter
+    positionInRange rayInRange rayQuestions castLookedAt handed rayState bufferQuestions castAfter marksAfter
     nextTick nextLength marching.marked marksFrom walkFrom marchingCast marchedLeft
 marched = refl
 

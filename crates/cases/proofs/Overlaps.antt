@@ -24,7 +24,7 @@ use Rattle.halving.specs.declared.HitAnswer.the-variants as first
 use Rattle.halving.specs.Halving.{spanMarks, walk, castLookedAt, handed}
 use Rattle.halving.specs.FirstHit.{hit}
 use Rattle.cast.specs.Ticks.{rayState}
-use Rattle.cast.specs.Questions.{endsDiffer, hitQuestions, bufferQuestions}
+use Rattle.cast.specs.Questions.{bufferQuestions}
 use Rattle.cast.specs.Calls.{castAfter, fullCast, marksAfter, marksLeft, hitAfter, firstHit}
 use Rattle.cases.proofs.Rays.{Call, bounds, full, hits, Answer, marks, found, answer, at, across, lowHigh}
 
@@ -107,5 +107,5 @@ unfolding
     nodesFrom nodes fileQuestions ceil maxℤ minℤ operatorOf itemOf items joinTop step run treeValue kernelOf raySquare
     prepare distanceAt footInside footDistance lowQ highQ qlo qhi weighted pointBounds joinBounds treeBounds stateOf spanState
     positionInRange rayInRange rayQuestions placeQuestions placeAnswer placeBounds spanMarks walk castLookedAt handed hit rayState
-    endsDiffer hitQuestions bufferQuestions castAfter fullCast marksAfter marksLeft hitAfter firstHit
+    bufferQuestions castAfter fullCast marksAfter marksLeft hitAfter firstHit
 overlaps = refl

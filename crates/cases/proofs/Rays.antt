@@ -17,6 +17,7 @@ use Rattle.part.specs.declared.Checked.{Checked}
 use Rattle.part.specs.declared.Checked.the-variants as part
 use Rattle.field.specs.declared.Position.{Position}
 use Rattle.field.specs.declared.Ray.{Ray}
+use Rattle.field.specs.Ray.{constantRay}
 use Rattle.field.specs.Tree.{operatorOf, itemOf, items, joinTop, step, run, treeValue}
 use Rattle.field.specs.Solid.{kernelOf}
 use Rattle.field.specs.Bounds.{raySquare, prepare, distanceAt, footInside, footDistance, lowQ, highQ, qlo, qhi}
@@ -33,7 +34,7 @@ use Rattle.halving.specs.declared.HitAnswer.the-variants as first
 use Rattle.halving.specs.Halving.{spanMarks, walk, castLookedAt, handed}
 use Rattle.halving.specs.FirstHit.{hit}
 use Rattle.cast.specs.Ticks.{rayState}
-use Rattle.cast.specs.Questions.{endsDiffer, hitQuestions, bufferQuestions}
+use Rattle.cast.specs.Questions.{bufferQuestions}
 use Rattle.cast.specs.Calls.{castAfter, fullCast, marksAfter, marksLeft, hitAfter, firstHit}
 
 -- ---- calls and answers
@@ -101,8 +102,9 @@ rows =
     ∷ (hits fileK (across (pos 0)) 14, found (first.Spent 330 14))
     -- "The same ray at y = 512: all empty, 1 probe."
     ∷ (full fileK (across (pos 512)) 2047 (replicate 1024 3), marks (cast.Complete 1) (replicate 1024 0))
-    -- "A = B: 13."
-    ∷ (hits fileK (record { start = at (pos 1) (pos 2); end = at (pos 1) (pos 2) }) 2047, found (first.Refused 13))
+    -- "A = B", which becomes an answered case (document 02, P8): every tick is the one place, inside
+    ∷ (hits fileK (constantRay (at (pos 1) (pos 2))) 2047, found (first.Hit 0 2 1))
+    ∷ (full fileK (constantRay (at (pos 1) (pos 2))) 2047 (replicate 1024 3), marks (cast.Complete 1) (replicate 1024 2))
     -- "Coordinate 2,048: 12; 2,047 passes.", of a place and of a ray
     ∷ (bounds fileK (at (pos 2048) (pos 0)), bounded (place.Refused 12))
     ∷ (bounds fileK (at (pos 2047) (pos 0)), lowHigh (pos 0) (pos 0))
@@ -119,5 +121,5 @@ unfolding
     nodesFrom nodes fileQuestions answerOf checkFile ceil maxℤ operatorOf itemOf items joinTop step run treeValue kernelOf raySquare
     prepare distanceAt footInside footDistance lowQ highQ qlo qhi weighted pointBounds joinBounds treeBounds stateOf spanState
     positionInRange rayInRange rayQuestions placeQuestions placeAnswer placeBounds spanMarks walk castLookedAt handed hit rayState
-    endsDiffer hitQuestions bufferQuestions castAfter fullCast marksAfter marksLeft hitAfter firstHit
+    bufferQuestions castAfter fullCast marksAfter marksLeft hitAfter firstHit
 starred = refl

@@ -1,6 +1,6 @@
 -- Wrong answers that the contracts refute (document 01, "Contracts and evidence": "These empty programs are to be caught"), on file K and the ray
 -- that document 01 prints the list of. Each theorem takes what a contract promises, `CastDemands` and its like, and a wrong answer or byte, and
--- cites the field of the promise that the two contradict; without that field it is not proved. `constant-refusal` and `asked-13-first` are of the
+-- cites the field of the promise that the two contradict; without that field it is not proved. `constant-refusal` and `asked-12-first` are of the
 -- answer that the contract's equation names.
 --     constant-crossing, constant-inside, hit-at-start         demand 3: `sound`
 --     empty-column, fat-column; solid-column                   a column's bits: `alone`; and the marks: `sound`
@@ -12,7 +12,7 @@
 --     hit-probes                                               a first hit's order: `order`
 --     dear-hit, spent-late; spent-in-time                      what it costs: `prompt`; and that it is found: `in-time`
 --     as-hit, as-clear, as-spent; inexact-entry                a viewer's first hit: these four; `exact`
---     constant-refusal, asked-13-first                         the equation of a full cast's answer
+--     constant-refusal, asked-12-first                         the equation of a full cast's answer
 --     two-nodes, not-enclosing, loose                          the check of a file (`Says`) and the bounds at a place (`PlaceSays`)
 use mathlib.Core.Path.{_≡_, refl, sym, ap, _∙_, subst}
 use mathlib.Core.List.{List}
@@ -60,7 +60,7 @@ use Rattle.halving.proofs.Halving.{Walked}
 use Rattle.cast.specs.declared.ColumnAnswer.the-variants as column
 use Rattle.cast.specs.Ticks.{exponent, rayState}
 use Rattle.cast.specs.Column.{middleSolid, tickBit, bitOf, columnLookedAt}
-use Rattle.cast.specs.Questions.{endsDiffer, hitQuestions, bufferQuestions}
+use Rattle.cast.specs.Questions.{bufferQuestions}
 use Rattle.cast.specs.Calls.{rayProbes, rayMarks, rayWalk, castAfter, fullCast, hitAfter, firstHit}
 use Rattle.cast.specs.Demands.{Sound, Alone, AloneBits, Middles, Empty, AloneHit, FirstNotEmpty, HitAt}
 use Rattle.cast.specs.Demands.{Counted, CountedHit, SameOrder, PromptHit, FoundHit, CountedColumn}
@@ -216,7 +216,7 @@ unfolding
     u16 u32 i16 hasBytes zeros firstNo isPoint kindKnown coordinate inRange forPoint forOperator heldAfter nodeQuestions recordQuestions
     recordsQuestions iso version distance marked trailerQuestions start count nodeAt zeroBytes recordAt recordsFrom records nodesFrom nodes
     fileQuestions ceil operatorOf itemOf items joinTop step run treeValue kernelOf raySquare prepare distanceAt footInside footDistance lowQ highQ
-    qlo qhi weighted pointBounds joinBounds treeBounds stateOf spanState rayState positionInRange rayInRange rayQuestions endsDiffer hitQuestions
+    qlo qhi weighted pointBounds joinBounds treeBounds stateOf spanState rayState positionInRange rayInRange rayQuestions
     hit hitAfter firstHit
 hit-is = refl
 
@@ -381,7 +381,7 @@ accepted-are : (firstNo (fileQuestions fileK) ≡ Yes) × (firstNo (bufferQuesti
 unfolding
     u16 u32 i16 hasBytes zeros firstNo isPoint kindKnown coordinate inRange forPoint forOperator heldAfter nodeQuestions recordQuestions
     recordsQuestions iso version distance marked trailerQuestions start count nodeAt zeroBytes recordAt recordsFrom records fileQuestions
-    positionInRange rayInRange rayQuestions endsDiffer hitQuestions bufferQuestions placeQuestions
+    positionInRange rayInRange rayQuestions bufferQuestions placeQuestions
 accepted-are = (refl, refl, refl)
 
 -- "constant refusal": the call's answer is none, whatever the budget
@@ -391,13 +391,13 @@ constant-refusal budget number e =
     let f : rayWalk K ray exponent budget ≡ cast.Refused number = rw (accepted-are .1) at e in
     subst (λ (w : CastAnswer). Walked (rayState K ray 1024) budget exponent 0 0 w) f (ray-walked K ray exponent budget)
 
--- with equal ends and a short buffer 13 is the first no, and not 14
-pub asked-13-first : (budget : ℕ) → fullCast fileK (record { start = at (pos 1) (pos 2); end = at (pos 1) (pos 2) }) budget 1023 ≡ cast.Refused 13
+-- with a coordinate of 2,048 and a short buffer 12 is the first no, and not 14
+pub asked-12-first : (budget : ℕ) → fullCast fileK (across (pos 2048)) budget 1023 ≡ cast.Refused 12
 unfolding
     u16 u32 i16 hasBytes zeros firstNo isPoint kindKnown coordinate inRange forPoint forOperator heldAfter nodeQuestions recordQuestions
     recordsQuestions iso version distance marked trailerQuestions start count nodeAt zeroBytes recordAt recordsFrom records fileQuestions
-    positionInRange rayInRange rayQuestions endsDiffer hitQuestions bufferQuestions castAfter fullCast
-asked-13-first budget = refl
+    positionInRange rayInRange rayQuestions bufferQuestions castAfter fullCast
+asked-12-first budget = refl
 
 -- a check that refuses file K, and one that counts two nodes
 pub refused-file : (number : ℕ) → Says fileK (part.Refused number) → ⊥

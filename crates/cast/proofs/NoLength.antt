@@ -2,10 +2,10 @@
 -- states are all one (`place-states`): each tick's mark is the state of those bounds (`place-marks`), each bit goes by their sum (`place-bits`), and
 -- the ray costs 1 probe where they decide, and where they do not as many as there can be, 2 T − 1 (`place-probes`). So each call's answer and bytes
 -- are known from the place's bounds (`place-cast`, `place-hit`, `place-column`); refused, they are refused alike (`place-refused`).
-use mathlib.Core.Path.{_≡_, refl, sym, ap, ap₂, _∙_}
+use mathlib.Core.Path.{_≡_, refl, ap, _∙_}
 use mathlib.Core.List.{List, [], _∷_, _++_}
-use mathlib.Core.Bool.{true, cond}
-use Prim.Native.Nat.{ℕ, _+_, _*_, _^_, _≤_, _<_}
+use mathlib.Core.Bool.{cond}
+use Prim.Native.Nat.{ℕ, _+_, _*_, _^_, _≤_}
 use native.Mathlib.Nat.{zero-add}
 use native.Mathlib.Omega.{arith}
 use borrow.Author.Tests.{le-leb}
@@ -39,8 +39,8 @@ use Rattle.halving.proofs.Uniform.{uniform, count-uniform, marks-uniform, hit-u
 use Rattle.cast.specs.declared.ColumnAnswer.the-variants as column
 use Rattle.cast.specs.Ticks.{exponent, enough, hitCost, rayState}
 use Rattle.cast.specs.Questions.{bufferQuestions}
-use Rattle.cast.specs.Column.{columnBytes, middleSolid, bitOf, packed}
-use Rattle.cast.specs.Calls.{rayProbes, rayMarks, castAfter, fullCast, marksAfter, marksLeft, hitAfter, firstHit}
+use Rattle.cast.specs.Column.{columnBytes, middleSolid, bitOf}
+use Rattle.cast.specs.Calls.{rayProbes, castAfter, fullCast, marksAfter, marksLeft, hitAfter, firstHit}
 use Rattle.cast.specs.Calls.{columnAfter, columnAnswer, bitsAfter, bitsLeft}
 use Rattle.cast.proofs.Bits.{packed-all}
 use Rattle.cast.proofs.Middles.{bit-is-middle}
