@@ -71,12 +71,12 @@ module _ (file : List ℕ) (ray : ViewRay) where
       go (No n) b h = h
 
   -- a refused one's number
-  abbrev Number : ℕ → Type 0
+  abbrev pub Number : ℕ → Type 0
   Number n = ((1 ≤ n) × (n ≤ 11)) ⊎ (n ≡ 15)
 
-  refusal : {n : ℕ} → firstNo (viewQuestions file ray) ≡ No n → Number n
+  pub view-refusal : {n : ℕ} → firstNo (viewQuestions file ray) ≡ No n → Number n
   unfolding next
-  refusal {n} e = go (firstNo (fileQuestions file)) refl (rayWhole ray) (sym view-verdict ∙ e)
+  view-refusal {n} e = go (firstNo (fileQuestions file)) refl (rayWhole ray) (sym view-verdict ∙ e)
     where
       go : (v : Verdict) → firstNo (fileQuestions file) ≡ v → (b : Bool) → next v (cond b Yes (No 15)) ≡ No n → Number n
       go Yes f true h = no-is-not-yes (sym h)
@@ -141,7 +141,7 @@ module _ (file : List ℕ) (ray : ViewRay) where
             }
         go (No n) e = record {
           alone = tt;
-          counted = refusal e;
+          counted = view-refusal e;
           order = tt;
           prompt = tt;
           in-time = λ h first few. tt;
