@@ -505,9 +505,9 @@ uint32_t fenalukki_marching_cast(const uint8_t *file, size_t file_len,
  * a figure of hits. A clear ray may take up to 2,047 probes, and is spent with a
  * budget of fewer than it takes.
  *
- * Where the ends coincide, the call asks about a place. It is clear if the place
- * is empty, and else a hit at tick 0 with the place's mark: 1 probe if the place
- * is empty or inside, 11 if it is crossing.
+ * Where the ends coincide, the call asks about a place. With a budget of 11 or
+ * more it is clear if the place is empty, and else a hit at tick 0 with the place's
+ * mark: 1 probe if the place is empty or inside, 11 if it is crossing.
  */
 uint64_t fenalukki_first_hit(const uint8_t *file, size_t file_len,
                              int32_t ax, int32_t ay, int32_t az,
@@ -564,9 +564,9 @@ uint32_t fenalukki_column(const uint8_t *file, size_t file_len,
  * well: a camera farther out clips its ray to that cube first, and the entry
  * lies between the ends that are handed over.
  *
- * A cursor asks about a place by a ray whose ends coincide: it is clear outside
- * the part, a hit at tick 0 inside it or where the place is crossing, and takes
- * 1 probe or, crossing, 11. Zero and minus zero are one coordinate.
+ * A cursor asks about a place by a ray whose ends coincide: with a budget of 11 or
+ * more it is clear if the place is empty and a hit at tick 0 if it is inside or
+ * crossing, for 1 probe or, crossing, 11. Zero and minus zero are one coordinate.
  *
  * Returns 1 to 11 or 15, the refusal number, or k * 2^32 + tick * 65,536 +
  * probes, as fenalukki_first_hit does for the ray in steps:
