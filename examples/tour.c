@@ -1,8 +1,8 @@
 /* A tour of fenalukki.h: writes a part of three points, makes each of the
- * fifteen calls, plans a viewer's budgets, has the points joined by other
- * operators, and each refusal number answered once. What it prints is in
- * tour.out. Lengths are in steps of 1/64 mm but for the viewer's, which are in
- * millimetres. */
+ * fifteen calls, plans a viewer's budgets, asks about places by rays, has the
+ * points joined by other operators, and each refusal number answered once. What
+ * it prints is in tour.out. Lengths are in steps of 1/64 mm but for the viewer's,
+ * which are in millimetres. */
 #include "fenalukki.h"
 
 #include <inttypes.h>
@@ -227,6 +227,8 @@ static void show_plane(const struct part *part)
 /* 5. Full casts: complete, and spent; and a column on the same ray, which has of
  * each crossing tick whether its middle is solid. */
 
+static const int32_t top[3] = {0, 1024, 0}, bottom[3] = {0, -1024, 0};
+
 static const char *mark_word(int mark)
 {
     static const char *const words[] = {"empty", "crossing", "inside", "not looked at"};
@@ -267,17 +269,19 @@ static int print_answer(uint32_t number, uint32_t budget, const uint8_t *marks)
     return 1;
 }
 
-static uint32_t full_cast(const struct part *part, uint32_t budget, uint8_t *marks)
+static uint32_t full_cast(const struct part *part, const int32_t a[3], const int32_t b[3],
+                          uint32_t budget, uint8_t *marks)
 {
-    return fenalukki_full_cast(part->bytes, part->length, 0, 1024, 0, 0, -1024, 0, budget, marks,
-                               FENALUKKI_MARKS_BYTES);
+    return fenalukki_full_cast(part->bytes, part->length, a[0], a[1], a[2], b[0], b[1], b[2],
+                               budget, marks, FENALUKKI_MARKS_BYTES);
 }
 
-static void print_cast(const struct part *part, uint32_t budget)
+static void print_cast(const struct part *part, const int32_t a[3], const int32_t b[3],
+                       uint32_t budget)
 {
     uint8_t marks[FENALUKKI_MARKS_BYTES];
 
-    if (print_answer(full_cast(part, budget, marks), budget, marks))
+    if (print_answer(full_cast(part, a, b, budget, marks), budget, marks))
         print_runs(marks);
 }
 
@@ -294,11 +298,11 @@ static int print_solid(const uint8_t *bits, int first)
     return after + 1;
 }
 
-static void print_column(const struct part *part)
+static void print_column(const struct part *part, const int32_t a[3], const int32_t b[3])
 {
     uint8_t bits[FENALUKKI_COLUMN_BYTES];
-    uint32_t number = fenalukki_column(part->bytes, part->length, 0, 1024, 0, 0, -1024, 0, bits,
-                                       sizeof bits);
+    uint32_t number = fenalukki_column(part->bytes, part->length, a[0], a[1], a[2], b[0], b[1],
+                                       b[2], bits, sizeof bits);
     int tick = 0;
 
     printf("column: ");
@@ -312,27 +316,28 @@ static void print_column(const struct part *part)
 static void show_casts(const struct part *part)
 {
     printf("\n5. Full casts from (0, 1024, 0) to (0, -1024, 0), and a column\n");
-    print_cast(part, FENALUKKI_ENOUGH);
-    print_cast(part, 30);
-    print_cast(part, 0);
-    print_column(part);
+    print_cast(part, top, bottom, FENALUKKI_ENOUGH);
+    print_cast(part, top, bottom, 30);
+    print_cast(part, top, bottom, 0);
+    print_column(part, top, bottom);
 }
 
 /* 6. Marching casts on the same ray: complete, with the full cast's marks and
  * probes of its own, and spent. */
 
-static uint32_t marching_cast(const struct part *part, uint32_t budget, uint8_t *marks)
+static uint32_t marching_cast(const struct part *part, const int32_t a[3], const int32_t b[3],
+                              uint32_t budget, uint8_t *marks)
 {
-    return fenalukki_marching_cast(part->bytes, part->length, 0, 1024, 0, 0, -1024, 0, budget,
-                                   marks, FENALUKKI_MARKS_BYTES);
+    return fenalukki_marching_cast(part->bytes, part->length, a[0], a[1], a[2], b[0], b[1], b[2],
+                                   budget, marks, FENALUKKI_MARKS_BYTES);
 }
 
 /* Of two casts that are complete. */
 static void print_beside_full_cast(const struct part *part)
 {
     uint8_t marks[FENALUKKI_MARKS_BYTES], full_marks[FENALUKKI_MARKS_BYTES];
-    uint32_t number = marching_cast(part, FENALUKKI_MARCHING_ENOUGH, marks);
-    uint32_t full = full_cast(part, FENALUKKI_ENOUGH, full_marks);
+    uint32_t number = marching_cast(part, top, bottom, FENALUKKI_MARCHING_ENOUGH, marks);
+    uint32_t full = full_cast(part, top, bottom, FENALUKKI_ENOUGH, full_marks);
 
     if (!print_answer(number, FENALUKKI_MARCHING_ENOUGH, marks))
         return;
@@ -341,11 +346,12 @@ static void print_beside_full_cast(const struct part *part)
            (unsigned long)fenalukki_probes(full));
 }
 
-static void print_march(const struct part *part, uint32_t budget)
+static void print_march(const struct part *part, const int32_t a[3], const int32_t b[3],
+                        uint32_t budget)
 {
     uint8_t marks[FENALUKKI_MARKS_BYTES];
 
-    if (print_answer(marching_cast(part, budget, marks), budget, marks))
+    if (print_answer(marching_cast(part, a, b, budget, marks), budget, marks))
         print_runs(marks);
 }
 
@@ -353,8 +359,8 @@ static void show_marches(const struct part *part)
 {
     printf("\n6. Marching casts on the same ray\n");
     print_beside_full_cast(part);
-    print_march(part, 30);
-    print_march(part, 1);
+    print_march(part, top, bottom, 30);
+    print_march(part, top, bottom, 1);
 }
 
 /* 7. First hits by whole steps. */
@@ -450,7 +456,14 @@ static void show_views(const struct part *part)
  * hit there or before is never answered as spent. The part is file K, a ball about
  * the origin, and the rays run along x, in millimetres. */
 
-static const int32_t ball[FENALUKKI_NUMBERS_PER_NODE] = {FENALUKKI_KIND_POINT, 512, 0, 0, 0, 4};
+static void make_k(struct part *k)
+{
+    static const int32_t ball[FENALUKKI_NUMBERS_PER_NODE] = {FENALUKKI_KIND_POINT, 512, 0, 0, 0, 4};
+    uint32_t number = fenalukki_write(ball, FENALUKKI_NUMBERS_PER_NODE, 1, k->bytes,
+                                      sizeof k->bytes, 0);
+
+    k->length = fenalukki_end(number);
+}
 
 static void print_budgeted(const struct part *part, float ax, float bx, uint32_t budget)
 {
@@ -462,27 +475,23 @@ static void print_budgeted(const struct part *part, float ax, float bx, uint32_t
 /* The first ray begins in a crossing tick, where a probe less than planned is too
  * little. The second takes much less than planned; spent, it is past the tick that
  * was planned for. */
-static void show_budgets(void)
+static void show_budgets(const struct part *k)
 {
-    static struct part k;
-    uint32_t number = fenalukki_write(ball, FENALUKKI_NUMBERS_PER_NODE, 1, k.bytes,
-                                      sizeof k.bytes, 0);
-
-    k.length = fenalukki_end(number);
     printf("\n9. Planned budgets, on file K: %lu for tick 0, %lu to tick 99, %lu to tick 330\n",
            (unsigned long)fenalukki_hit_budget(0), (unsigned long)fenalukki_hit_budget(99),
            (unsigned long)fenalukki_hit_budget(330));
-    print_budgeted(&k, 5.65625f, 21.65625f, fenalukki_hit_budget(0));
-    print_budgeted(&k, 5.65625f, 21.65625f, fenalukki_hit_budget(0) - 1);
-    print_budgeted(&k, -16, 16, fenalukki_hit_budget(330));
-    print_budgeted(&k, -16, 16, fenalukki_hit_budget(0));
+    print_budgeted(k, 5.65625f, 21.65625f, fenalukki_hit_budget(0));
+    print_budgeted(k, 5.65625f, 21.65625f, fenalukki_hit_budget(0) - 1);
+    print_budgeted(k, -16, 16, fenalukki_hit_budget(330));
+    print_budgeted(k, -16, 16, fenalukki_hit_budget(0));
 }
 
 /* 10. Bounds at a place, in units of 2^-32. */
 
 static void print_bounds(const struct part *part, int32_t x, int32_t y, int32_t z)
 {
-    int64_t bounds[FENALUKKI_BOUNDS], level = ISO * FENALUKKI_BOUNDS_ONE;
+    int iso = fenalukki_iso(fenalukki_check(part->bytes, part->length));
+    int64_t bounds[FENALUKKI_BOUNDS], level = iso * FENALUKKI_BOUNDS_ONE;
     int64_t low, high;
     uint32_t number = fenalukki_place_bounds(part->bytes, part->length, x, y, z, bounds);
 
@@ -505,7 +514,37 @@ static void show_bounds(const struct part *part)
     print_bounds(part, 1000, 1000, 1000);
 }
 
-/* 11. Cut and lesser, with the ball moved into the bar. The bar is the earlier
+/* 11. A place, asked by a ray whose ends coincide, as a viewer's cursor asks: every
+ * tick is that place, and its mark goes by the bounds there. A first hit tells it
+ * with a budget of 11. The part is file K. */
+
+static void print_asked(const struct part *k, int32_t x, int32_t y, int32_t z)
+{
+    const int32_t at[3] = {x, y, z};
+    const float cursor[3] = {(float)x / FENALUKKI_STEPS_PER_MM, (float)y / FENALUKKI_STEPS_PER_MM,
+                             (float)z / FENALUKKI_STEPS_PER_MM};
+
+    print_bounds(k, x, y, z);
+    printf("first hit, budget %lu: ", (unsigned long)fenalukki_hit_budget(0));
+    print_hit(fenalukki_first_hit(k->bytes, k->length, x, y, z, x, y, z, fenalukki_hit_budget(0)));
+    print_view(k, cursor, cursor);
+    printf("full cast, ");
+    print_cast(k, at, at, FENALUKKI_ENOUGH);
+    printf("marching cast, ");
+    print_march(k, at, at, FENALUKKI_MARCHING_ENOUGH);
+    print_column(k, at, at);
+}
+
+/* An empty place, one inside, and one that the bounds leave open. */
+static void show_places(const struct part *k)
+{
+    printf("\n11. Places asked by rays, on file K; solid from the field 1 on\n");
+    print_asked(k, 512, 0, 0);
+    print_asked(k, 0, 0, 0);
+    print_asked(k, 362, 5, 2);
+}
+
+/* 12. Cut and lesser, with the ball moved into the bar. The bar is the earlier
  * operand, so the cut is the bar without the ball. */
 
 enum { FIRST_LINE = 15, AFTER_LINE = 25 }; /* y from 64 down to -576 */
@@ -527,12 +566,12 @@ static void print_overlap(int kind)
 
 static void show_overlaps(void)
 {
-    printf("\n11. Cut and lesser of the bar and the ball, moved to y 0\n");
+    printf("\n12. Cut and lesser of the bar and the ball, moved to y 0\n");
     print_overlap(FENALUKKI_KIND_CUT);
     print_overlap(FENALUKKI_KIND_LESSER);
 }
 
-/* 12. Counted calls: three totals that each call adds to. */
+/* 13. Counted calls: three totals that each call adds to. */
 
 static void print_totals(const char *after, const uint64_t totals[FENALUKKI_TOTALS])
 {
@@ -548,7 +587,7 @@ static void show_totals(const struct part *part)
     uint8_t marks[FENALUKKI_MARKS_BYTES], bits[FENALUKKI_COLUMN_BYTES];
     uint64_t totals[FENALUKKI_TOTALS] = {0, 0, 0};
 
-    printf("\n12. Running totals\n");
+    printf("\n13. Running totals\n");
     fenalukki_full_cast_counted(file, length, 0, 1024, 0, 0, -1024, 0, 30, marks, sizeof marks,
                                 totals);
     print_totals("a full cast with budget 30", totals);
@@ -570,7 +609,7 @@ static void show_totals(const struct part *part)
     print_totals("a column, with probes near the ceiling", totals);
 }
 
-/* 13. A saved record, read into the totals: its probes are at the ceiling of 32
+/* 14. A saved record, read into the totals: its probes are at the ceiling of 32
  * bits, and the column after it counts on from there. */
 
 static const uint8_t saved[FENALUKKI_SAVED_BYTES] = {
@@ -592,7 +631,7 @@ static void show_restore(const struct part *part)
     uint8_t bits[FENALUKKI_COLUMN_BYTES];
     uint64_t totals[FENALUKKI_TOTALS] = {0, 0, 0};
 
-    printf("\n13. A saved record\n");
+    printf("\n14. A saved record\n");
     print_restore(FENALUKKI_SAVED_BYTES, totals);
     fenalukki_column_counted(part->bytes, part->length, 0, 1024, 0, 0, -1024, 0, bits,
                              sizeof bits, totals);
@@ -600,7 +639,7 @@ static void show_restore(const struct part *part)
     print_restore(FENALUKKI_SAVED_BYTES - 1, totals);
 }
 
-/* 14. Every refusal. */
+/* 15. Every refusal. 13 is not given. */
 
 /* 1 to 4 by a file that has one fault. */
 static uint64_t refused_file(struct part part, int number)
@@ -686,8 +725,8 @@ static uint32_t refused_write(int number)
     }
 }
 
-/* 12 to 15 and 18 by a place, a ray, a buffer, a float or a saved record, the
- * others as above. */
+/* 12, 14, 15 and 18 by a place, a buffer, a float or a saved record, the others as
+ * above. */
 static uint64_t refused_call(const struct part *part, int number)
 {
     uint8_t bits[FENALUKKI_COLUMN_BYTES];
@@ -698,8 +737,6 @@ static uint64_t refused_call(const struct part *part, int number)
     case FENALUKKI_REFUSED_COORDINATE:
         return fenalukki_place_bounds(part->bytes, part->length, 0, 0,
                                       FENALUKKI_COORDINATE_MAX + 1, bounds);
-    case FENALUKKI_REFUSED_EQUAL_ENDS:
-        return fenalukki_first_hit(part->bytes, part->length, 5, 6, 7, 5, 6, 7, FENALUKKI_ENOUGH);
     case FENALUKKI_REFUSED_ROOM:
         return fenalukki_column(part->bytes, part->length, 0, 0, 0, 1, 0, 0, bits,
                                 sizeof bits - 1);
@@ -718,17 +755,20 @@ static void show_refusals(const struct part *part)
 {
     int number;
 
-    printf("\n14. Refusals\n");
+    printf("\n15. Refusals\n");
     for (number = 1; number <= FENALUKKI_REFUSALS; number++) {
-        uint64_t answer = refused_call(part, number);
+        uint64_t answer;
 
+        if (number == 13)
+            continue;
+        answer = refused_call(part, number);
         printf("%2d: %s\n", fenalukki_refusal(answer), fenalukki_refusal_text(answer));
     }
 }
 
 int main(void)
 {
-    static struct part part;
+    static struct part part, k;
 
     printf("Fenalukki %s\n\n", FENALUKKI_VERSION);
     make_part(&part, bar_and_ball);
@@ -741,8 +781,10 @@ int main(void)
     show_marches(&part);
     show_hits(&part);
     show_views(&part);
-    show_budgets();
+    make_k(&k);
+    show_budgets(&k);
     show_bounds(&part);
+    show_places(&k);
     show_overlaps();
     show_totals(&part);
     show_restore(&part);

@@ -20,7 +20,8 @@
  * crossing, neither is known, and at every place the field differs from the
  * iso-value by at most the sum, over the part's points, of the size of the
  * weight times (S/(256 r) + 1/16384), where S adds the sizes of the ray's three
- * coordinate differences and r is the point's radius, both in steps.
+ * coordinate differences and r is the point's radius, both in steps. The ends
+ * may coincide: every tick is then that one place, and S is 0.
  *
  * The fifteen entries
  *
@@ -132,10 +133,10 @@
  *     a check, a read             1 to 11
  *     a write                     16, then 5 to 11 of what is given, then 17
  *     bounds at a place           1 to 12
- *     a first hit                 1 to 13
- *     a full cast, a column       1 to 14
- *     a marching cast             1 to 14
- *     a viewer's first hit        1 to 11, then 15, then 13
+ *     a first hit                 1 to 12
+ *     a full cast, a column       1 to 12, then 14
+ *     a marching cast             1 to 12, then 14
+ *     a viewer's first hit        1 to 11, then 15
  *     a saved record              18
  *
  *    1  Is the file 24 to 65,536 bytes long?
@@ -153,13 +154,32 @@
  *   10  Of a point: are fewer than 64 values held before it?
  *   11  Is exactly one value held at the end?
  *   12  Are the place's or the ray's coordinates -2,047 to 2,047?
- *   13  Do the ray's ends differ?
  *   14  Has the buffer room: 1,024 bytes for marks, 128 for a column?
  *   15  Is each float finite and 64 times it whole, from -2,047 to 2,047?
  *   16  Is the count of numbers a multiple of six from 6 to 3,066?
  *   17  Do records and trailer, 12 bytes a node and 12, end within the buffer
  *       and by byte 65,536 of it?
  *   18  Is the saved record exactly 12 bytes long?
+ *
+ *   13 is not given: it was document 01's question whether the ray's ends differ.
+ *
+ * A ray whose ends coincide
+ *
+ *   It asks about a place, as a viewer's cursor does. Every tick is that place,
+ *   and all have one mark, by the low and the high that fenalukki_place_bounds
+ *   gives there:
+ *
+ *     empty       high is below iso * 2^32; a first hit is clear, and a column's
+ *                 bits are all 0
+ *     inside      low is at least iso * 2^32; a first hit is at tick 0, and a
+ *                 column's bits are all 1
+ *     crossing    neither; a first hit is at tick 0, and a column's bits are all
+ *                 1 if low + high is at least 2 * iso * 2^32, else all 0
+ *
+ *   An empty or inside place takes 1 probe, in a marching cast 5. A crossing one
+ *   takes 11 in a first hit, 2,047 in a full cast or a column and 2,052 in a
+ *   marching cast. So a first hit, the viewer's too, tells what is at a place with
+ *   a budget of 11, and fenalukki_place_bounds gives the bounds themselves.
  *
  * What a call costs
  *
@@ -178,22 +198,34 @@
  *   column has no budget.
  *   docs/BENCHMARKS.md has the figures of other parts.
  *
+ * Coming from version 3
+ *
+ *   A ray whose ends coincide is answered; version 3 refused it with 13. A host
+ *   that counted on this refusal compares the ends itself, and one that names
+ *   FENALUKKI_REFUSED_EQUAL_ENDS leaves the name out. A counted call on such a ray
+ *   is a cast with its probes, no longer a refusal. Where the place is crossing, a
+ *   full cast, a march or a column takes the most probes there are: for the place
+ *   alone a first hit is enough. Nothing else changes: every ray whose ends differ
+ *   has version 3's answers.
+ *
  * Coming from version 2
  *
  *   A column's bit of a crossing tick goes by the tick's middle; in version 2 it
  *   was always 1. Parts come out up to a tick thinner at each face, and a strut
  *   thinner than a tick may have no bit. A host that took the bits for all that
- *   may be solid takes the ticks that a full cast does not mark empty. Nothing
- *   else changes: marks, probes, numbers and totals are version 2's.
+ *   may be solid takes the ticks that a full cast does not mark empty. A ray
+ *   whose ends coincide changes as from version 3. Nothing else changes: marks,
+ *   probes, numbers and totals are version 2's.
  *
  * Coming from version 1
  *
- *   Columns change as from version 2. A host that makes counted calls keeps,
- *   copies, prints and saves its totals as uint64_t, no longer as uint32_t, and
- *   is compiled again: a linker does not see the difference, and 24 bytes are
- *   written where 12 were lent. What version 1 saved is read by
- *   fenalukki_restore_totals; a host that saves its totals tells it from what it
- *   saves now, by the length for one. Nothing else changes.
+ *   Columns change as from version 2, and a ray whose ends coincide as from
+ *   version 3. A host that makes counted calls keeps, copies, prints and saves its
+ *   totals as uint64_t, no longer as uint32_t, and is compiled again: a linker
+ *   does not see the difference, and 24 bytes are written where 12 were lent. What
+ *   version 1 saved is read by fenalukki_restore_totals; a host that saves its
+ *   totals tells it from what it saves now, by the length for one. Nothing else
+ *   changes.
  *
  * Platform
  *
@@ -214,10 +246,10 @@
 
 /* The version of this header and of the archive beside it. The major number
  * changes where a host has to change, the minor where names are added. */
-#define FENALUKKI_VERSION_MAJOR 3
-#define FENALUKKI_VERSION_MINOR 1
+#define FENALUKKI_VERSION_MAJOR 4
+#define FENALUKKI_VERSION_MINOR 0
 #define FENALUKKI_VERSION_PATCH 0
-#define FENALUKKI_VERSION "3.1.0"
+#define FENALUKKI_VERSION "4.0.0"
 #define FENALUKKI_VERSION_NUMBER \
     (FENALUKKI_VERSION_MAJOR * 10000 + FENALUKKI_VERSION_MINOR * 100 + FENALUKKI_VERSION_PATCH)
 
@@ -288,7 +320,7 @@
 #define FENALUKKI_TOTALS_MAX UINT64_C(18446744073709551615) /* 2^64 - 1 */
 #define FENALUKKI_SAVED_BYTES 12
 
-/* Refusal numbers, and the greatest of them. */
+/* Refusal numbers, and the greatest of them; 13 is not given. */
 #define FENALUKKI_REFUSED_LENGTH 1
 #define FENALUKKI_REFUSED_FILE_MARK 2
 #define FENALUKKI_REFUSED_VERSION 3
@@ -301,7 +333,6 @@
 #define FENALUKKI_REFUSED_TOO_MANY_HELD 10
 #define FENALUKKI_REFUSED_NOT_ONE_HELD 11
 #define FENALUKKI_REFUSED_COORDINATE 12
-#define FENALUKKI_REFUSED_EQUAL_ENDS 13
 #define FENALUKKI_REFUSED_ROOM 14
 #define FENALUKKI_REFUSED_FLOAT 15
 #define FENALUKKI_REFUSED_NUMBERS 16
@@ -388,7 +419,7 @@ uint32_t fenalukki_place_bounds(const uint8_t *file, size_t file_len,
  * Full cast: the mark of every tick, as far as the budget goes.
  *
  * Returns
- *   1 to 14            the refusal number
+ *   1 to 12 or 14      the refusal number
  *   65,536 + probes    complete
  *   131,072 + probes   spent: the budget was used up and another probe needed
  *
@@ -398,6 +429,9 @@ uint32_t fenalukki_place_bounds(const uint8_t *file, size_t file_len,
  * byte that is 3 (byte 0 if budget is 0), all bytes from it on are 3, and those
  * before it are as a larger budget would leave them.
  * Bytes from 1,024 on are never written.
+ *
+ * Where the ends coincide, all marks are that of the place, and a complete cast
+ * takes 1 probe if the place is empty or inside and 2,047 if it is crossing.
  */
 uint32_t fenalukki_full_cast(const uint8_t *file, size_t file_len,
                              int32_t ax, int32_t ay, int32_t az,
@@ -415,7 +449,7 @@ uint32_t fenalukki_full_cast(const uint8_t *file, size_t file_len,
  * candidate is the two ticks after it.
  *
  * Returns
- *   1 to 14            the refusal number
+ *   1 to 12 or 14      the refusal number
  *   65,536 + probes    complete
  *   131,072 + probes   spent: the budget was used up and another probe needed
  *
@@ -435,6 +469,9 @@ uint32_t fenalukki_full_cast(const uint8_t *file, size_t file_len,
  * For all ticks of a ray a full cast takes fewer probes on most rays tried, and
  * for the first hit alone there is fenalukki_first_hit. docs/BENCHMARKS.md has
  * the figures of both casts.
+ *
+ * Where the ends coincide, all marks are that of the place, and a complete cast
+ * takes 5 probes if the place is empty or inside and 2,052 if it is crossing.
  */
 uint32_t fenalukki_marching_cast(const uint8_t *file, size_t file_len,
                                  int32_t ax, int32_t ay, int32_t az,
@@ -446,7 +483,7 @@ uint32_t fenalukki_marching_cast(const uint8_t *file, size_t file_len,
  * First hit: the first tick that is not empty. It probes in the same order as
  * a full cast and stops as soon as that tick is known.
  *
- * Returns 1 to 13, the refusal number, or k * 2^32 + tick * 65,536 + probes:
+ * Returns 1 to 12, the refusal number, or k * 2^32 + tick * 65,536 + probes:
  *   k = 1   the hit's tick is crossing
  *   k = 2   the hit's tick is inside
  *   k = 3   clear: every tick is empty; tick is 0
@@ -467,6 +504,10 @@ uint32_t fenalukki_marching_cast(const uint8_t *file, size_t file_len,
  * to 10 it is spent at tick 0: nothing less than 11 would do in the figure. It is
  * a figure of hits. A clear ray may take up to 2,047 probes, and is spent with a
  * budget of fewer than it takes.
+ *
+ * Where the ends coincide, the call asks about a place. With a budget of 11 or
+ * more it is clear if the place is empty, and else a hit at tick 0 with the place's
+ * mark: 1 probe if the place is empty or inside, 11 if it is crossing.
  */
 uint64_t fenalukki_first_hit(const uint8_t *file, size_t file_len,
                              int32_t ax, int32_t ay, int32_t az,
@@ -478,7 +519,7 @@ uint64_t fenalukki_first_hit(const uint8_t *file, size_t file_len,
  * spent.
  *
  * Returns
- *   1 to 14            the refusal number
+ *   1 to 12 or 14      the refusal number
  *   65,536 + probes    complete; the probes are those of a full cast
  *
  * Unless refused, bit t mod 8 of byte t / 8 of bits (the lowest bit is bit 0) is
@@ -503,6 +544,9 @@ uint64_t fenalukki_first_hit(const uint8_t *file, size_t file_len,
  * than a tick may have no bit, where it lies between two middles. Its ticks are
  * marked crossing all the same: a host that must not lose a strut looks at the
  * marks of a full cast.
+ *
+ * Where the ends coincide, every middle is that one place, and the bits are all 1
+ * or all 0.
  */
 uint32_t fenalukki_column(const uint8_t *file, size_t file_len,
                           int32_t ax, int32_t ay, int32_t az,
@@ -520,7 +564,11 @@ uint32_t fenalukki_column(const uint8_t *file, size_t file_len,
  * well: a camera farther out clips its ray to that cube first, and the entry
  * lies between the ends that are handed over.
  *
- * Returns 1 to 11, 13 or 15, the refusal number, or k * 2^32 + tick * 65,536 +
+ * A cursor asks about a place by a ray whose ends coincide: with a budget of 11 or
+ * more it is clear if the place is empty and a hit at tick 0 if it is inside or
+ * crossing, for 1 probe or, crossing, 11. Zero and minus zero are one coordinate.
+ *
+ * Returns 1 to 11 or 15, the refusal number, or k * 2^32 + tick * 65,536 +
  * probes, as fenalukki_first_hit does for the ray in steps:
  *   k = 1   the hit's tick is crossing
  *   k = 2   the hit's tick is inside
@@ -741,7 +789,7 @@ static inline const char *fenalukki_refusal_text(uint64_t number)
         "a point comes where 64 values are held",
         "the values held at the end are not exactly one",
         "a coordinate of the place or ray is outside -2,047 to 2,047",
-        "the ray's ends are equal",
+        "no refusal number", /* 13 is not given */
         "the buffer is smaller than 1,024 bytes for marks or 128 for a column",
         "a float in millimetres is not a multiple of 1/64 from -2,047/64 to 2,047/64",
         "the count of numbers is not a multiple of six from 6 to 3,066",
@@ -762,7 +810,7 @@ static inline const char *fenalukki_refusal_text(uint64_t number)
  * away from zero. What rounds to no step from -2,047 to 2,047 comes back as it
  * is (beyond the range of a float, as an infinity), and so does a NaN: the call
  * refuses it with 15. An end moves by less than 0.014 mm, and ends that round
- * to one place are refused with 13.
+ * to one place ask about that place.
  */
 static inline float fenalukki_round_to_step(double mm)
 {

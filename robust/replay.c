@@ -3,7 +3,7 @@
  * reference's: the number, every byte of the buffer, of the two bounds or of the
  * nodes' numbers and around it, the totals and what lies around them, and the
  * file, the numbers or the saved record that the call is handed. A first hit's
- * number is also held to the figure of its probes.
+ * number is also held to the figure of its probes, and no call is to give 13.
  * reference/examples/requests makes the stream and describes it.
  *
  *     replay pages|heap < STREAM
@@ -28,6 +28,7 @@
 #define HEAD 108
 #define KINDS 5
 #define QUESTIONS 19
+#define NOT_GIVEN 13
 /* A kind of answer is rare below one in so many requests. */
 #define RARE 1000
 
@@ -299,6 +300,10 @@ static int replay(const struct request *r, struct lent *handed, struct lent *buf
     found |= differs(r, "the buffer", take_back_from(buffer, r->place, r->expected, r->written));
     found |= differs(r, "the totals", take_back(totals, r->after, sizeof r->after));
     found |= breaks_figure(r, number);
+    if (number == NOT_GIVEN) {
+        printf("request %lu, %s: refused with 13\n", requests, calls[r->call].name);
+        found = 1;
+    }
     if (number == r->number)
         return found;
     printf("request %lu, %s: answered %llu, expected %llu\n", requests, calls[r->call].name,
@@ -348,6 +353,8 @@ static int print_refusals(void)
 
     printf("refused with");
     for (question = 1; question < QUESTIONS; question++) {
+        if (question == NOT_GIVEN)
+            continue;
         snprintf(name, sizeof name, "%d:", question);
         rare |= print_count(name, refusals[question]);
     }

@@ -279,7 +279,7 @@ static int is_step(int32_t a, int32_t b, int32_t c, int32_t step)
     return a == step || b == step || c == step || a == -step || b == -step || c == -step;
 }
 
-/* The number of a first hit by a wrong limit of question 12 or 13. */
+/* The number of a first hit by a wrong limit of question 12. */
 static uint64_t misjudged_ray(ENDS, uint64_t number)
 {
     if (wrong("passes-coordinate-2048") && number == 12 &&
@@ -288,10 +288,71 @@ static uint64_t misjudged_ray(ENDS, uint64_t number)
     if (wrong("refuses-coordinate-2047") && number >= 65536 &&
         (is_step(ax, ay, az, 2047) || is_step(bx, by, bz, 2047)))
         return 12;
-    if (wrong("refuses-ends-a-step-apart") && number >= 65536 && ax == bx && ay == by &&
-        az == bz + 1)
-        return 13;
     return number;
+}
+
+/* Whether a ray whose ends coincide is answered. */
+static int is_answered_place(ENDS, uint64_t number)
+{
+    return ax == bx && ay == by && az == bz && number >= 65536;
+}
+
+/* The same, by floats. */
+static int is_viewed_place(FLOATS, uint64_t number)
+{
+    return ax == bx && ay == by && az == bz && number >= 65536;
+}
+
+/* A first hit's number at a place as if that were always empty, or known by one probe. */
+static uint64_t misjudged_hit(uint64_t number, int as_clear, int by_one_probe)
+{
+    uint64_t kind = number >> 32;
+
+    if (as_clear && (kind == 1 || kind == 2))
+        return CLEAR;
+    return by_one_probe && kind == 1 ? (number & ~UINT64_C(0xffff)) + 1 : number;
+}
+
+/* The number of a full cast at a place that is wrong, or its marks. */
+static uint32_t misjudged_place(uint32_t number, uint8_t *marks)
+{
+    if (wrong("place-refused-by-cast"))
+        return 13;
+    if (wrong("place-always-empty") && number < 131072)
+        memset(marks, 0, 1024);
+    if (wrong("place-at-tick-0-alone") && number < 131072)
+        memset(marks + 1, 3, 1023);
+    if (wrong("place-by-one-probe") && number < 131072)
+        return COMPLETE;
+    return wrong("place-probe-less") && number < 131072 ? number - 1 : number;
+}
+
+/* The same of a column, and its bits. */
+static uint32_t misjudged_place_column(uint32_t number, uint8_t *column)
+{
+    if (wrong("place-refused-by-column"))
+        return 13;
+    if (wrong("place-column-always-empty"))
+        memset(column, 0, 128);
+    if (wrong("place-column-of-tick-0-alone"))
+        memset(column + 1, 0, 127);
+    if (wrong("place-column-by-one-probe"))
+        return COMPLETE;
+    return wrong("place-column-probe-less") ? number - 1 : number;
+}
+
+/* The same of a marching cast, which takes five probes at least. */
+static uint32_t misjudged_place_march(uint32_t number, uint8_t *marks)
+{
+    if (wrong("place-refused-by-march"))
+        return 13;
+    if (wrong("place-march-always-empty") && number < 131072)
+        memset(marks, 0, 1024);
+    if (wrong("place-march-of-64-ticks") && number < 131072)
+        memset(marks + 64, 3, 960);
+    if (wrong("place-march-by-one-probe") && number < 131072)
+        return COMPLETE;
+    return wrong("place-march-probe-less") && number < 131072 ? number - 1 : number;
 }
 
 /* A hit's number with a probe more, where it has as many as the figure of its tick. */
@@ -346,6 +407,8 @@ uint32_t __wrap_fenalukki_full_cast(FILE_BYTES, ENDS, uint32_t budget, uint8_t *
         number++;
     if (wrong("crossing-as-inside") && number >= 65536 && memchr(marks, 1, 1024) != NULL)
         *(uint8_t *)memchr(marks, 1, 1024) = 2;
+    if (is_answered_place(RAY, number))
+        number = misjudged_place(number, marks);
     return misjudged(file, file_len, number);
 }
 
@@ -362,6 +425,10 @@ uint64_t __wrap_fenalukki_first_hit(FILE_BYTES, ENDS, uint32_t budget)
         number = beyond_figure(number);
     if (wrong("spent-at-figure"))
         number = spent_at_figure(number, budget);
+    if (is_answered_place(RAY, number))
+        number = misjudged_hit(number, wrong("place-always-clear"), wrong("place-hit-by-one-probe"));
+    if (wrong("place-refused-by-hit") && is_answered_place(RAY, number))
+        number = 13;
     return misjudged_ray(RAY, number);
 }
 
@@ -457,6 +524,8 @@ uint32_t __wrap_fenalukki_column(FILE_BYTES, ENDS, uint8_t *column, size_t colum
         column[127] ^= 0x80;
     if (wrong("refuses-room-128") && number >= 65536 && column_len == 128)
         number = 14;
+    if (is_answered_place(RAY, number))
+        number = misjudged_place_column(number, column);
     return number;
 }
 
@@ -469,6 +538,11 @@ uint64_t __wrap_fenalukki_viewer_first_hit(FILE_BYTES, FLOATS, uint32_t budget)
         number = beyond_figure(number);
     if (wrong("viewer-spent-at-figure"))
         number = spent_at_figure(number, budget);
+    if (is_viewed_place(RAY, number))
+        number = misjudged_hit(number, wrong("place-viewed-clear"),
+                               wrong("place-viewed-by-one-probe"));
+    if (wrong("place-refused-by-viewer") && is_viewed_place(RAY, number))
+        number = 13;
     return misviewed(RAY, number);
 }
 
@@ -484,6 +558,8 @@ uint32_t __wrap_fenalukki_full_cast_counted(FILE_BYTES, ENDS, uint32_t budget, u
     touch_totals(number, casts, totals);
     if (wrong("counted-mark") && number >= 65536)
         marks[1023] ^= 1;
+    if (wrong("place-refused-by-counted-cast") && is_answered_place(RAY, number))
+        number = 13;
     return number;
 }
 
@@ -502,6 +578,8 @@ uint64_t __wrap_fenalukki_first_hit_counted(FILE_BYTES, ENDS, uint32_t budget,
         number = beyond_figure(number);
     if (wrong("counted-spent-at-figure"))
         number = spent_at_figure(number, budget);
+    if (wrong("place-refused-by-counted-hit") && is_answered_place(RAY, number))
+        number = 13;
     return number;
 }
 
@@ -520,24 +598,38 @@ uint32_t __wrap_fenalukki_column_counted(FILE_BYTES, ENDS, uint8_t *column, size
         totals[1] += crossing;
     if (wrong("counted-bit") && number >= 65536)
         column[0] ^= 1;
+    if (wrong("place-refused-by-counted-column") && is_answered_place(RAY, number))
+        number = 13;
     return number;
+}
+
+/* Counts a place as a refusal, from the totals before it. */
+static void count_refused(const uint64_t *before, uint64_t *totals)
+{
+    totals[0] = before[0];
+    totals[1] = before[1];
+    totals[2] = before[2] + 1;
 }
 
 uint64_t __wrap_fenalukki_viewer_first_hit_counted(FILE_BYTES, FLOATS, uint32_t budget,
                                                    uint64_t *totals)
 {
-    uint64_t casts = totals[0];
+    uint64_t before[3] = {totals[0], totals[1], totals[2]};
     uint64_t number = __real_fenalukki_viewer_first_hit_counted(file, told_file(file_len), RAY,
                                                                 budget, totals);
 
     touch_file(file, file_len);
-    touch_totals(number, casts, totals);
+    touch_totals(number, before[0], totals);
+    if (wrong("place-counted-as-refusal") && is_viewed_place(RAY, number))
+        count_refused(before, totals);
     if (wrong("counted-clear-as-spent") && number >> 32 == 3)
         number += UINT64_C(1) << 32;
     if (wrong("counted-viewer-hit-beyond-figure"))
         number = beyond_figure(number);
     if (wrong("counted-viewer-spent-at-figure"))
         number = spent_at_figure(number, budget);
+    if (wrong("place-refused-by-counted-viewer") && is_viewed_place(RAY, number))
+        number = 13;
     return number;
 }
 
@@ -629,6 +721,8 @@ uint32_t __wrap_fenalukki_marching_cast(FILE_BYTES, ENDS, uint32_t budget, uint8
     mismarch(number, marks, marks_len, before);
     if (wrong("march-reports-halving") && number >= 65536)
         return by_halving(file, file_len, RAY, budget);
+    if (is_answered_place(RAY, number))
+        number = misjudged_place_march(number, marks);
     return mismarched(marks_len, budget, number);
 }
 
@@ -661,6 +755,8 @@ uint32_t __wrap_fenalukki_marching_cast_counted(FILE_BYTES, ENDS, uint32_t budge
         totals[1] = before[1] + (by_halving(file, file_len, RAY, budget) & 0xffff);
     if (wrong("counted-march-mark") && number >= 65536)
         marks[1023] ^= 1;
+    if (wrong("place-refused-by-counted-march") && is_answered_place(RAY, number))
+        number = 13;
     return number;
 }
 

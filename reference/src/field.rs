@@ -2,8 +2,9 @@
 //! units of 1/2^32, and the tolerance of a crossing tick. All is worked out with
 //! fractions up to the rounding of 65536 u; from there bounds are whole numbers.
 //!
-//! A place of a ray is A + s (B - A) for a fraction s from 0 to 1. Distances
-//! are always worked out from the coordinates of a place.
+//! A place of a ray is A + s (B - A) for a fraction s from 0 to 1; on a ray of no
+//! length, whose ends coincide, all are the one place. Distances are always worked
+//! out from the coordinates of a place.
 
 use crate::big::Big;
 use crate::fraction::Fraction;
@@ -27,6 +28,11 @@ impl Ray {
     /// S: the sizes of the coordinate differences added.
     pub fn spread(&self) -> i64 {
         self.differences().iter().map(|d| d.abs()).sum()
+    }
+
+    /// Whether A and B coincide. Every tick is then the one place.
+    pub fn has_no_length(&self) -> bool {
+        self.a == self.b
     }
 
     /// The place at the fraction s of the way from A to B.
@@ -142,8 +148,12 @@ pub fn field_on_ray(part: &Part, ray: &Ray, n: i64, m: i64) -> Option<Fraction> 
 
 /// The fraction s of the place nearest a point's centre on the whole line
 /// through A and B. The squared distance is a quadratic in s, so its values
-/// at 0, 1/2 and 1 give its coefficients. `None` if A and B are one place.
+/// at 0, 1/2 and 1 give its coefficients. `None` of a ray of no length: there is
+/// no line.
 pub fn nearest(ray: &Ray, point: &Node) -> Option<Fraction> {
+    if ray.has_no_length() {
+        return None;
+    }
     let half = Fraction::new(1, 2)?;
     let two = Fraction::from(2);
     let value = |s: &Fraction| distance_squared(&ray.place(s), point);
@@ -157,14 +167,16 @@ pub fn nearest(ray: &Ray, point: &Node) -> Option<Fraction> {
 }
 
 /// The exact least and greatest u of a point over all places of the ray from
-/// the fraction `from` to the fraction `to` of the way.
+/// the fraction `from` to the fraction `to` of the way. On a ray of no length both
+/// are u at the one place.
 pub fn u_range(ray: &Ray, point: &Node, from: &Fraction, to: &Fraction) -> (Fraction, Fraction) {
+    let Some(s) = nearest(ray, point) else {
+        let u = u_at(&whole_place(ray.a), point);
+        return (u.clone(), u);
+    };
     let distance = |s: &Fraction| distance_squared(&ray.place(s), point);
     let farthest = distance(from).max(distance(to));
-    let closest = match nearest(ray, point) {
-        Some(s) => distance((&s).max(from).min(to)),
-        None => distance(from),
-    };
+    let closest = distance((&s).max(from).min(to));
     (u_of(&farthest, point), u_of(&closest, point))
 }
 

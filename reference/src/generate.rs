@@ -278,15 +278,9 @@ pub const STYLES: [Style; 6] = [
     Style::Any,
 ];
 
-/// A random ray of the given style; its ends differ and are in range.
+/// A random ray of the given style; its ends are in range, and they differ.
 pub fn ray(random: &mut SplitMix64, part: &Part, style: Style) -> Ray {
-    let points: Vec<Node> = part
-        .nodes
-        .iter()
-        .copied()
-        .filter(|node| node.kind == Kind::Point)
-        .collect();
-    let target = random.pick(&points);
+    let target = random.pick(&points(part));
     let (a, b) = match style {
         Style::Axis => axis(random, &target),
         Style::Centre => through_centre(random, &target),
@@ -296,6 +290,29 @@ pub fn ray(random: &mut SplitMix64, part: &Part, style: Style) -> Ray {
         Style::Any => (anywhere(random), anywhere(random)),
     };
     differing(clamped(a), clamped(b))
+}
+
+fn points(part: &Part) -> Vec<Node> {
+    let nodes = part.nodes.iter().copied();
+    nodes.filter(|node| node.kind == Kind::Point).collect()
+}
+
+/// A ray of no length: its place is about a point, in its ball or around it, close
+/// to its rim or close to where the point alone is as large as iso.
+pub fn no_length(random: &mut SplitMix64, part: &Part) -> Ray {
+    let target = random.pick(&points(part));
+    let r = i64::from(target.r);
+    let size = random.pick(&[r / 3, r, r, surface(&target, part.iso)]);
+    let mut from_centre = [random.between(-size, size), 0, 0];
+    let left = size * size - from_centre[0] * from_centre[0];
+    from_centre[1] = random.between(-left.isqrt(), left.isqrt());
+    let left = left - from_centre[1] * from_centre[1];
+    from_centre[2] = left.isqrt() + random.between(-1, 1);
+    from_centre.rotate_left(random.between(0, 2) as usize);
+    let sign = random.pick(&[-1, 1]);
+    let at = centre(&target);
+    let at = clamped([0, 1, 2].map(|i| at[i] + sign * from_centre[i]));
+    Ray { a: at, b: at }
 }
 
 fn centre(point: &Node) -> [i64; 3] {

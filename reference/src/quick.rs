@@ -4,7 +4,8 @@
 //! Coordinates are taken in 1/1024 steps, for middles in 1/2048 steps, so squared
 //! distances are scaled by 1024^2 and 2048^2, as the delivered crates scale them;
 //! in that the path is not independent of them. The nearest places, and q there,
-//! come from the fractions.
+//! come from the fractions. On a ray of no length every span is the place where it
+//! begins.
 
 use crate::field::{
     middle_of, nearest, q_high, q_range, start_of, tree_bounds, u_at, u_range, Bounds, Ray,
@@ -62,7 +63,8 @@ impl SpanBounds for TickField {
 }
 
 impl TickField {
-    /// q at the ends in `i64`, and at the nearest place if the span holds it.
+    /// q at the ends in `i64`, and at the nearest place if the span holds it. On a
+    /// ray of no length q at the one place.
     fn quick_range(
         &self,
         index: usize,
@@ -70,8 +72,11 @@ impl TickField {
         first: u32,
         after: u32,
     ) -> Option<(i64, i64)> {
-        let kept = self.nearest.get(index)?.as_ref()?;
         let (first_low, first_high) = self.quick_q(point, first, 1024)?;
+        if self.ray.has_no_length() {
+            return Some((first_low, first_high));
+        }
+        let kept = self.nearest.get(index)?.as_ref()?;
         let (after_low, after_high) = self.quick_q(point, after, 1024)?;
         let (from, to) = (start_of(first)?, start_of(after)?);
         let high = match (kept.s.cmp(&from), kept.s.cmp(&to)) {

@@ -78,7 +78,7 @@ impl ViewerHit {
     }
 }
 
-/// The viewer's first hit: questions 1 to 11, then 15, then 13.
+/// The viewer's first hit: questions 1 to 11, then 15.
 pub fn viewer_first_hit(file: &[u8], view: ViewRay, budget: u32) -> ViewerHit {
     viewer_first_hit_by::<TickField>(file, view, budget)
 }
@@ -112,9 +112,6 @@ fn try_viewer<F: SpanBounds>(file: &[u8], view: ViewRay, budget: u32) -> Result<
         a: steps(view.a).ok_or(15u32)?,
         b: steps(view.b).ok_or(15u32)?,
     };
-    if ray.a == ray.b {
-        return Err(13);
-    }
     Ok(hit::<F>(&part, &ray, budget))
 }
 

@@ -258,6 +258,30 @@ fn quick_middles_equal_the_fractions() {
     assert!(seen[0] > 4_000 && seen[1] > 3_500, "{seen:?}");
 }
 
+/// On a ray of no length the bounds of every span and every middle, by either path,
+/// are those at the one place.
+#[test]
+fn rays_of_no_length() {
+    let mut random = SplitMix64::new(60);
+    let mut different = 0;
+    for i in 0..600 {
+        let part = generate::part(&mut random, &SHAPES[i % SHAPES.len()]);
+        let ray = generate::no_length(&mut random, &part);
+        let at = place_bounds(&part, &whole_place(ray.a));
+        let (exact, quick) = (ExactField::new(&part, ray), TickField::new(&part, ray));
+        for (first, after) in [(0, 1024), (0, 1), (511, 512), (512, 1024), (1023, 1024)] {
+            assert_eq!(exact.bounds(first, after), at, "{ray:?} {part:?}");
+            assert_eq!(quick.bounds(first, after), at, "{ray:?} {part:?}");
+        }
+        for tick in [0, 700, 1023] {
+            assert_eq!(Some(compare_middle(&quick, &part, &ray, tick)), at);
+        }
+        assert!(points(&part).all(|point| nearest(&ray, point).is_none()));
+        different += u32::from(at.is_some_and(|at| at.low < at.high));
+    }
+    assert!(different > 200, "{different}");
+}
+
 /// Coordinates far outside the rules, where `i64` overflows.
 #[test]
 fn quick_bounds_fall_back_to_the_fractions() {

@@ -8,7 +8,7 @@ mod prototypes;
 
 use prototypes::{c_entries, rattle_entries, Entry};
 use reference::cast::{self, Column, FirstHit, FullCast, Mark};
-use reference::field::{field_on_ray, Ray};
+use reference::field::{field_on_ray, Bounds, Ray};
 use reference::fraction::Fraction;
 use reference::generate::{self, Shape, SplitMix64, STYLES};
 use reference::march::marching_cast;
@@ -357,8 +357,13 @@ fn write(end: u32) -> Reading {
     reading(65_536 + u64::from(end), &[(END, end)])
 }
 
+/// The refusal numbers: 13 is not given.
+fn refusals() -> impl Iterator<Item = u32> {
+    (1..=18).filter(|&number| number != 13)
+}
+
 fn readings() -> Vec<Reading> {
-    let mut all: Vec<Reading> = (1..=18).map(refused).collect();
+    let mut all: Vec<Reading> = refusals().map(refused).collect();
     all.extend([24, 25, 255, 256, 6144, 65_535, 65_536].map(write));
     for probes in [0, 1, 15, 255, 256, 2046, 2047, 2048, 2052] {
         all.extend(casts(probes));
@@ -514,6 +519,20 @@ fn the_rounding_of_a_bit() {
     assert!(read("include/fenalukki.h").contains(said));
 }
 
+/// The header names each refusal number, in order and without 13, and the greatest of them.
+#[test]
+fn the_names_of_refusals() {
+    let header = read("include/fenalukki.h");
+    let named = header.lines().filter_map(|line| {
+        let name = line.strip_prefix("#define FENALUKKI_REFUSED_")?;
+        name.split(' ').nth(1)?.parse::<u32>().ok()
+    });
+    assert!(named.eq(refusals()));
+    assert!(header.contains("#define FENALUKKI_REFUSALS 18\n"));
+    let said = "13 is not given: it was document 01's question whether the ray's ends differ.";
+    assert!(header.contains(said));
+}
+
 /// Each refusal number has a text of its own.
 #[test]
 fn refusal_texts() {
@@ -523,10 +542,10 @@ fn refusal_texts() {
         let output = printed(&program, &input);
         let texts = output.lines().map(|line| line.splitn(12, ' ').last());
         let texts: Vec<&str> = texts.map(|text| text.expect("a text")).collect();
-        let own: BTreeSet<&str> = texts[1..=18].iter().copied().collect();
-        assert_eq!(own.len(), 18);
+        let own: BTreeSet<&str> = refusals().map(|number| texts[number as usize]).collect();
+        assert_eq!(own.len(), 17);
         assert!(!own.contains("no refusal number") && !own.contains("not refused"));
-        assert_eq!([texts[0], texts[19], texts[20]], ["no refusal number"; 3]);
+        assert_eq!([0, 13, 19, 20].map(|n| texts[n]), ["no refusal number"; 4]);
         assert_eq!(texts[21..], ["not refused"; 3]);
     }
 }
@@ -669,6 +688,53 @@ fn the_budgets_of_the_tour() {
     }
 }
 
+/// What the tour prints of a place asked by a ray, after the bounds there, by the reference's bounds alone.
+fn asked_place(k: &[u8], at: [i32; 3]) -> String {
+    let Bounds { low, high } = cast::bounds_at(k, at).expect("bounds");
+    let level = 1 << 32;
+    let hit = |mark: &str, probes| format!("hit, tick 0 is {mark}, entry 0, {probes} probes");
+    let (mark, first_hit, [full, march]) = match () {
+        _ if high < level => ("empty", "clear, 1 probes".to_string(), [1, 5]),
+        _ if low >= level => ("inside", hit("inside", 1), [1, 5]),
+        _ => ("crossing", hit("crossing", 11), [2047, 2052]),
+    };
+    let [x, y, z] = at.map(|c| f64::from(c) / 64.0);
+    let mm = format!("({x}, {y}, {z})");
+    let entry = match mark {
+        "empty" => String::new(),
+        _ => format!("  entry at {mm}\n"),
+    };
+    let solid = match low + high >= 2 * level {
+        true => "  solid 0 to 1023\n",
+        false => "",
+    };
+    format!(
+        "first hit, budget 11: {first_hit}\n{mm} to {mm}: {first_hit}\n{entry}\
+         full cast, budget 2047: {full} probes, complete\n  {mark} 0 to 1023\n\
+         marching cast, budget 2052: {march} probes, complete\n  {mark} 0 to 1023\n\
+         column: {full} probes\n{solid}"
+    )
+}
+
+/// An empty place of file K, one inside and one left open, each asked by a ray whose ends coincide.
+#[test]
+fn the_places_of_the_tour() {
+    let tour = read("examples/tour.out");
+    let shown = section(&tour, "\n\n11. Places asked by rays", "\n12. ");
+    let k = FileBuilder::new(1).point(512, [0; 3], 4).build();
+    let places = [
+        ([512, 0, 0], "empty"),
+        ([0; 3], "solid"),
+        ([362, 5, 2], "open"),
+    ];
+    let marks = ["empty", "inside", "crossing"];
+    for ((at, state), mark) in places.into_iter().zip(marks) {
+        let lines = format!(", {state}\n{}", asked_place(&k, at));
+        assert!(lines.contains(&format!("  {mark} 0 to 1023")), "{lines}");
+        assert!(shown.contains(&lines), "{lines}");
+    }
+}
+
 /// The three numbers of a saved record whose bytes are listed in C.
 fn saved_numbers(listed: &str) -> [u64; 3] {
     let bytes = listed.split(',').map(|byte| byte.trim().strip_prefix("0x"));
@@ -698,7 +764,7 @@ fn the_saved_record_of_the_tour() {
         "11 bytes: refused 18, the saved record is not exactly 12 bytes long",
         &format!("  the totals: {after}"),
     ];
-    let shown = section(&printed, "\n13. A saved record\n", "\n\n14. ");
+    let shown = section(&printed, "\n14. A saved record\n", "\n\n15. ");
     assert_eq!(shown, lines.join("\n"));
 }
 
@@ -715,7 +781,7 @@ fn edited_tour(name: &str, edits: &[(&str, &str)]) -> String {
     printed(&program, "")
 }
 
-/// A tour of a part that is refused reads nothing that was lent. Its section 9 is of another part.
+/// A tour of a part that is refused reads nothing that was lent. Its sections 9 and 11 are of another part.
 #[test]
 fn a_tour_of_a_refused_part() {
     let check = "if (!show_check(&part))\n        return 1;";
@@ -724,9 +790,9 @@ fn a_tour_of_a_refused_part() {
     let edits = [(end, &no_iso[..]), (check, "show_check(&part);")];
     let output = edited_tour("spoiled_tour", &edits);
     let sections: Vec<&str> = output.split("\n\n").collect();
-    assert_eq!(sections.len(), 15);
+    assert_eq!(sections.len(), 16);
     let counts = [1, 1, 1, 1, 4, 3, 4, 3, 4, 6];
-    let of_part = sections[1..9].iter().chain(&sections[10..12]);
+    let of_part = sections[1..9].iter().chain([&sections[10], &sections[12]]);
     for (section, refused) in of_part.zip(counts) {
         let lines = section.lines().rev().take(refused);
         let said = lines.filter(|line| line.contains("refused 5, ")).count();
@@ -764,7 +830,7 @@ fn worked_cut(format: &str) -> &str {
 
 /// What the tour prints of cut, and of lesser.
 fn overlaps(tour: &str) -> [&str; 2] {
-    let both = section(tour, "\n\n11. ", "\n\n12. ");
+    let both = section(tour, "\n\n12. ", "\n\n13. ");
     let (cut, lesser) = both.split_once("\nlesser, ").expect("both");
     [cut, lesser]
 }

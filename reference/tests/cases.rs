@@ -8,6 +8,7 @@ use reference::cast::{
 };
 use reference::field::{Bounds, Ray};
 use reference::lister::{input, list};
+use reference::march::marching_cast;
 use reference::part::{check, FileBuilder};
 use std::ops::Range;
 use worked::{at_y, file_k, AXIS};
@@ -153,21 +154,42 @@ fn weights_4_and_minus_4_cancel() {
     assert_eq!(marks, [0; 1024]);
 }
 
+/// File K on the ray from a place to itself: the runs that the lister prints, the
+/// probes of a march and of a first hit, its number without them, and a byte of the
+/// column. At (362, 5, 2), 65536 u is 32767.75: the bounds are on both sides of iso,
+/// and their sum is below twice that.
 #[test]
-fn ends_that_meet() {
-    let ray = Ray {
-        a: [5, 6, 7],
-        b: [5, 6, 7],
-    };
-    let mut buffer = [9; 1024];
+fn ends_that_coincide() {
     let k = file_k();
-    assert_eq!(first_hit(&k, &ray, 2047), FirstHit::Refused(13));
-    assert_eq!(column(&k, &ray, &mut buffer), Column::Refused(13));
-    let cast = full_cast(&k, &ray, 2047, &mut buffer);
-    assert_eq!(cast, FullCast::Refused(13));
-    assert_eq!(cast.number(), 13);
-    assert_eq!(buffer, [9; 1024]);
-    assert_eq!(list(&input(&ray, 2047, &k)), "refused 13\n");
+    let inside = ("inside 0 1024\nprobes 1 complete\n", 5, 1, 2 << 32, 0xff);
+    let empty = ("empty 0 1024\nprobes 1 complete\n", 5, 1, 3 << 32, 0);
+    let crossing = (
+        "crossing 0 1024\nprobes 2047 complete\n",
+        2052,
+        11,
+        1 << 32,
+        0,
+    );
+    for (at, (text, march, hit, kind, byte)) in [
+        ([5, 6, 7], inside),
+        ([256, 256, 0], inside),
+        ([362, 5, 2], crossing),
+        ([512, 0, 0], empty),
+        ([2047, -2047, 2047], empty),
+    ] {
+        let ray = Ray { a: at, b: at };
+        assert_eq!(list(&input(&ray, 2047, &k)), text);
+        let mut marks = [[9; 1024]; 2];
+        full_cast(&k, &ray, 2047, &mut marks[0]);
+        let probes = march;
+        let cast = marching_cast(&k, &ray, 2052, &mut marks[1]);
+        assert_eq!(cast, FullCast::Complete { probes });
+        assert_eq!(marks[0], marks[1]);
+        assert_eq!(first_hit(&k, &ray, 2047).number(), kind + hit);
+        let mut bits = [9; 129];
+        column(&k, &ray, &mut bits);
+        assert!(bits[..128].iter().all(|&b| b == byte) && bits[128] == 9);
+    }
 }
 
 #[test]
@@ -209,7 +231,7 @@ fn coordinate_limits() {
 }
 
 #[test]
-fn order_of_questions_12_to_14() {
+fn order_of_questions_12_and_14() {
     let k = file_k();
     let far = Ray {
         a: [2048, 0, 0],
@@ -221,8 +243,8 @@ fn order_of_questions_12_to_14() {
         a: [1, 0, 0],
         b: [1, 0, 0],
     };
-    assert_eq!(full_cast(&k, &point, 0, &mut []), FullCast::Refused(13));
-    assert_eq!(column(&k, &point, &mut []), Column::Refused(13));
+    assert_eq!(full_cast(&k, &point, 0, &mut []), FullCast::Refused(14));
+    assert_eq!(column(&k, &point, &mut []), Column::Refused(14));
     let bad = FileBuilder::new(1).point(0, [0; 3], 4).build();
     assert_eq!(full_cast(&bad, &far, 0, &mut []), FullCast::Refused(8));
     assert_eq!(bounds_at(&bad, [2048, 0, 0]), Err(8));

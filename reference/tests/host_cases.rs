@@ -201,14 +201,29 @@ fn refused_files() {
     }
 }
 
+/// Inside, undecided and outside file K's solid: the numbers of each call.
+#[test]
+fn ends_that_coincide() {
+    let k = file_k();
+    for (at, probes, march, hit, mark) in [
+        ([5, 6, 7], 1, 5, (2 << 32) + 1, 2),
+        ([362, 5, 2], 2047, 2052, (1 << 32) + 11, 1),
+        ([512, 0, 0], 1, 5, (3 << 32) + 1, 0),
+    ] {
+        let ray = Ray { a: at, b: at };
+        assert_eq!(full_cast(&k, &ray, 2047, 1024).number(), 65_536 + probes);
+        let cast = marching_cast(&k, &ray, 2052, 1024);
+        assert_eq!(cast.number(), 65_536 + march);
+        assert_eq!(column(&k, &ray, 128).number(), 65_536 + probes);
+        assert_eq!(first_hit(&k, &ray, 2047).number(), hit);
+        assert_eq!(marks(&k, &ray), [mark; 1024]);
+        assert_eq!(marched(&k, &ray), [mark; 1024]);
+    }
+}
+
 #[test]
 fn refused_rays() {
     let k = file_k();
-    let met = Ray {
-        a: [5, 6, 7],
-        b: [5, 6, 7],
-    };
-    assert_refused(&k, &met, 13);
     for value in [2048, -2048, 65_536, i32::MAX, i32::MIN] {
         for i in 0..6 {
             let mut ray = AXIS;

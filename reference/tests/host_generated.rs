@@ -39,6 +39,8 @@ struct Coverage {
     probes: [u32; 4],
     /// Accepted files of 511 records.
     most_records: u32,
+    /// Columns on rays of no length.
+    no_length: u32,
 }
 
 impl Coverage {
@@ -109,7 +111,9 @@ impl Coverage {
     fn assert_populated(&self) {
         let all = |classes: &[u32], least: u32| classes.iter().all(|&n| n >= least);
         assert_eq!(self.requests, 137_900);
-        assert!(all(&self.refused[1..], 400));
+        assert!(all(&self.refused[1..=12], 400) && self.refused[14] >= 400);
+        assert_eq!(self.refused[13], 0);
+        assert!(self.no_length >= 400);
         assert!(all(&[self.complete, self.spent, self.columns], 6_000));
         assert!(all(&[self.crossing_hits, self.inside_hits], 2_000));
         assert!(all(&[self.clear, self.hits_spent], 6_000));
@@ -158,7 +162,10 @@ impl Scene {
             coverage.first_hit(answer, kind);
         }
         let room = coverage.room(random, 128);
-        coverage.column(host::column(&self.file, &self.ray, room));
+        let answer = host::column(&self.file, &self.ray, room);
+        let no_length = self.ray.has_no_length() && answer.probes().is_some();
+        coverage.no_length += u32::from(no_length);
+        coverage.column(answer);
     }
 }
 

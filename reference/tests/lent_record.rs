@@ -202,7 +202,7 @@ fn each_call_at_each_limit() {
 
 #[test]
 fn calls_from_every_start() {
-    assert_from_every_start(compare_probes, 143);
+    assert_from_every_start(compare_probes, 145);
 }
 
 #[test]

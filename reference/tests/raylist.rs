@@ -85,11 +85,24 @@ fn refusals() {
             assert_eq!(compare(&input(&ray, 9, &k.build())), "refused 12\n");
         }
     }
-    let met = Ray {
-        a: [-7; 3],
-        b: [-7; 3],
-    };
-    assert_eq!(compare(&input(&met, 0, &k.build())), "refused 13\n");
+}
+
+/// The runs of a ray of no length are one, of the mark of its place.
+#[test]
+fn ends_that_coincide() {
+    let k = file_k();
+    for (at, budget, text) in [
+        ([-7; 3], 0, "probes 0 spent 0\n"),
+        ([-7; 3], 1, "inside 0 1024\nprobes 1 complete\n"),
+        ([512, 0, 0], 9, "empty 0 1024\nprobes 1 complete\n"),
+        ([362, 5, 2], 2047, "crossing 0 1024\nprobes 2047 complete\n"),
+        ([362, 5, 2], 10, "probes 10 spent 0\n"),
+        ([362, 5, 2], 12, "crossing 0 2\nprobes 12 spent 2\n"),
+        ([2048; 3], 9, "refused 12\n"),
+    ] {
+        let ray = Ray { a: at, b: at };
+        assert_eq!(compare(&input(&ray, budget, &k)), text);
+    }
 }
 
 #[test]
@@ -117,13 +130,16 @@ fn generated_and_damaged() {
         iso: (1, 8),
     };
     let mut random = SplitMix64::new(111);
-    let (mut refused, mut spent) = (0, 0);
+    let (mut refused, mut spent, mut no_length) = (0, 0, 0);
     for i in 0..1_000 {
         let part = match i % 5 {
             4 => cancelling_or_bored(&mut random),
             form => part_of_form(&mut random, &shape, FORMS[form]),
         };
-        let ray = generate::ray(&mut random, &part, STYLES[i % 6]);
+        let mut ray = generate::ray(&mut random, &part, STYLES[i % 6]);
+        if i % 20 == 0 {
+            ray.b = ray.a;
+        }
         let budget = random.pick(&[2047, 2047, 1, 20, 37, 300]);
         let mut input = input(&ray, budget, &FileBuilder::from(&part).build());
         if random.one_in(4) {
@@ -132,7 +148,9 @@ fn generated_and_damaged() {
         let text = compare(&input);
         refused += u32::from(text.starts_with("refused "));
         spent += u32::from(text.contains(" spent "));
+        no_length += u32::from(text.contains("probes ") && i % 20 == 0);
     }
     assert!((50..250).contains(&refused), "{refused}");
     assert!((100..600).contains(&spent), "{spent}");
+    assert!(no_length >= 30, "{no_length}");
 }

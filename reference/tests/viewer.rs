@@ -1,6 +1,6 @@
 //! The viewer's floats and its first hit.
 
-use reference::cast::first_hit;
+use reference::cast::{first_hit, Mark};
 use reference::field::{ExactField, Ray};
 use reference::generate::{self, Shape, SplitMix64, STYLES};
 use reference::part::FileBuilder;
@@ -159,7 +159,12 @@ fn order_of_questions() {
         a: [0.0, -0.0, 0.0],
         b: [-0.0, 0.0, -0.0],
     };
-    assert_eq!(viewer_first_hit(&k, zero, 9), ViewerHit::Refused(13));
+    let inside = ViewerHit::Hit {
+        entry: 0.0,
+        mark: Mark::Inside,
+        probes: 1,
+    };
+    assert_eq!(viewer_first_hit(&k, zero, 9), inside);
     let open = FileBuilder::new(1).point(1, [0; 3], 1).point(1, [0; 3], 1);
     let refused = viewer_first_hit(&open.build(), zero, 9);
     assert_eq!(refused, ViewerHit::Refused(11));

@@ -201,7 +201,7 @@ fn the_file_comes_first() {
 }
 
 #[test]
-fn floats_come_before_equal_ends() {
+fn floats_of_ends_that_coincide() {
     for float in refused_floats() {
         for place in 0..3 {
             let mut six = [1.0; 6];
@@ -210,11 +210,25 @@ fn floats_come_before_equal_ends() {
         }
         assert_refused(&file_k(), view_ray([float; 6]), 15);
     }
+}
+
+/// A hit at entry 0 in the solid, clear outside it, with one probe each.
+#[test]
+fn ends_that_coincide() {
+    let mut totals = Totals::default();
+    let mut hits = 0;
     for k in -2047..=2047i32 {
-        let end = [k, -k, 2047 - k.abs()];
+        let end = [k, -k, 300 - k.abs() / 8];
         let ray = in_millimetres(&Ray { a: end, b: end });
-        assert_refused(&file_k(), ray, 13);
+        let answer = view(&file_k(), &ray, 2047, &mut totals);
+        let hit = matches!(answer, ViewerHit::Hit { entry, .. } if entry == 0.0);
+        let far: i32 = end.iter().map(|c| c * c).sum();
+        assert_eq!(hit, far <= 131_072, "{end:?}");
+        assert_eq!(answer.probes(), Some(1));
+        hits += u32::from(hit);
     }
+    assert!((100..1_000).contains(&hits), "{hits}");
     let zeros = [0.0, -0.0, 0.0, -0.0, 0.0, 0.0];
-    assert_refused(&file_k(), view_ray(zeros), 13);
+    let answer = view(&file_k(), &view_ray(zeros), 2047, &mut totals);
+    assert_eq!((answer.probes(), totals.probes), (Some(1), 4096));
 }

@@ -26,6 +26,8 @@ struct Coverage {
     refused: [u32; 16],
     /// Refused by question 15 with equal ends.
     equal_ends: u32,
+    /// Rays of no length that are not refused.
+    no_length: u32,
     crossing_hits: u32,
     inside_hits: u32,
     /// Hits past the ray's start.
@@ -63,15 +65,16 @@ impl Coverage {
         }
         self.budgets[budget] += 1;
         self.changed += u32::from(changed);
+        self.no_length += u32::from(ray.a == ray.b);
     }
 
-    /// No class of requests is rare, and no request asked question 12 or 14.
+    /// No class of requests is rare, and no request is refused with 12, 13 or 14.
     fn assert_populated(&self) {
         let all = |classes: &[u32], least: u32| classes.iter().all(|&n| n >= least);
         assert_eq!(self.requests, 81_200);
-        assert_eq!((self.refused[12], self.refused[14]), (0, 0));
+        assert_eq!(self.refused[12..15], [0; 3]);
         assert!(all(&self.refused[1..=11], 500));
-        assert!(all(&[self.refused[13], self.refused[15]], 1_500));
+        assert!(all(&[self.no_length, self.refused[15]], 1_500));
         assert!(all(&[self.crossing_hits, self.inside_hits], 5_000));
         assert!(all(&[self.later_hits, self.clear, self.spent], 5_000));
         assert!(all(

@@ -21,7 +21,7 @@ pub fn halving(file: &[u8], ray: &Ray, marks: &mut [u8]) -> u32 {
     entries::full_cast(file, ray, 2047, marks)
 }
 
-fn marching(file: &[u8], ray: &Ray, marks: &mut [u8]) -> u32 {
+pub fn marching(file: &[u8], ray: &Ray, marks: &mut [u8]) -> u32 {
     entries::marching_cast(file, ray, 2052, marks)
 }
 

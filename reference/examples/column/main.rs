@@ -1,7 +1,8 @@
 //! What a column costs: the archive's, plain Rust's and that of samples; what
 //! the archive's two full casts cost, halving and marching; how many probes its
 //! first hits make, by the hit's tick, and what they cost on rays of the depth
-//! images; and what it takes to check, read and write a file. What marks and bits
+//! images; what it takes to ask about a place, by its bounds and by rays whose ends
+//! coincide; and to check, read and write a file. What marks and bits
 //! show of a strut thinner than a tick, and how thick walls come out. Or, by the
 //! shared libraries of an earlier archive and of this one, what columns and first
 //! hits cost before and after. Prints tables in Markdown; docs/BENCHMARKS.md
@@ -17,6 +18,7 @@ mod hits;
 mod libraries;
 mod loads;
 mod measure;
+mod places;
 mod plain;
 mod samples;
 mod walls;
@@ -300,6 +302,7 @@ fn print_tables() {
     casts::print();
     hits::print();
     depth::print();
+    places::print();
     print_files();
 }
 
@@ -310,6 +313,7 @@ fn main() {
         ["--before", before, after] => changes::print([before, after]),
         [load, name] => make(&loads::named(load), name),
         [load, name, "--rays", rays] => casts::make(load, name, rays),
+        [load, name, "--place", place] => places::make(load, name, place),
         [load, name, library] => changes::make(&loads::named(load), name, library),
         _ => print_tables(),
     }

@@ -1,4 +1,4 @@
-//! What the eighteen questions limit, and the limits.
+//! What the questions limit, and the limits.
 
 use crate::request::{casting, BOUNDS, COLUMN, FULL_CAST, MARCH, RESTORE, VIEW, WRITE};
 use std::ops::RangeInclusive;
@@ -25,7 +25,6 @@ pub enum What {
     HeldAtEnd,
     RayCoordinate,
     PlaceCoordinate,
-    Ends,
     MarksRoom,
     ColumnRoom,
     FloatSteps,
@@ -101,7 +100,6 @@ impl Limited {
 const MOST: i64 = i64::MAX;
 const REACH: RangeInclusive<i64> = -2047..=2047;
 const OF_REACH: &[[i64; 2]] = &[[2047, 2048], [-2047, -2048]];
-const OF_ENDS: &[[i64; 2]] = &[[1, 0], [2, 0], [3, 0], [4, 0], [5, 0], [6, 0]];
 const OF_FLOATS: &[[i64; 2]] = &[[0, 1], [0, 2], [0, 3], [0, 4], [0, 5]];
 /// The last pairs are of numbers that fewer bits do not tell apart.
 const OF_GIVEN_REACH: &[[i64; 2]] = &[[2047, 2048], [-2047, -2048], [0, 65_536]];
@@ -113,7 +111,7 @@ fn in_steps(call: u8) -> bool {
 
 /// All that is limited, in the questions' order.
 #[rustfmt::skip]
-pub const ALL: [Limited; 35] = [
+pub const ALL: [Limited; 34] = [
     one(What::Length, 1, "the file's length", 24..=65_536, &[[24, 23], [65_536, 65_537]]),
     one(What::Mark, 2, "the mark's four bytes", 0..=0, &[[0, 1]]).members(4),
     one(What::Version, 3, "the version", 1..=1, &[[1, 0], [1, 2], [1, 257]]),
@@ -134,8 +132,6 @@ pub const ALL: [Limited; 35] = [
         .asked_by(in_steps),
     one(What::PlaceCoordinate, 12, "the place's three", REACH, OF_REACH).members(3)
         .asked_by(|call| call == BOUNDS),
-    one(What::Ends, 13, "the ends", 1..=MOST, OF_ENDS)
-        .asked_by(|call| casting(call).is_some()),
     one(What::MarksRoom, 14, "the room for marks", 1024..=MOST, &[[1024, 1023]])
         .asked_by(|call| matches!(casting(call), Some(FULL_CAST | MARCH))),
     one(What::ColumnRoom, 14, "the room for a column", 128..=MOST, &[[128, 127]])
@@ -163,7 +159,7 @@ pub const ALL: [Limited; 35] = [
 impl What {
     /// Its row of `ALL`.
     pub fn limited(self) -> &'static Limited {
-        static ROWS: [Limited; 35] = ALL;
+        static ROWS: [Limited; 34] = ALL;
         let row = &ROWS[self as usize];
         assert_eq!(row.what, self);
         row
@@ -173,9 +169,6 @@ impl What {
     pub fn shown(self, value: i64) -> String {
         let names: &[&str] = match self {
             What::Mark => &["right", "one bit other"],
-            What::Ends => &[
-                "equal", "x + 1", "x - 1", "y + 1", "y - 1", "z + 1", "z - 1",
-            ],
             What::Float => &[
                 "a step",
                 "the next float",

@@ -229,12 +229,12 @@ pub fn of_steps(call: u8, a: [i32; 3], b: [i32; 3]) -> [u32; 6] {
     }
 }
 
-/// Rays and places at the limits of questions 12, 13 and 15, where the call
-/// asks them.
+/// Rays and places at the limits of questions 12 and 15, where the call asks
+/// them.
 fn rays(call: u8) -> Vec<[[u32; 6]; 2]> {
     match (casting(call), call) {
-        (Some(VIEW), _) => [coordinates(call, 6), ends(call), floats()].concat(),
-        (Some(_), _) => [coordinates(call, 6), ends(call)].concat(),
+        (Some(VIEW), _) => [coordinates(call, 6), floats()].concat(),
+        (Some(_), _) => coordinates(call, 6),
         (None, BOUNDS) => coordinates(call, 3),
         (None, _) => Vec::new(),
     }
@@ -250,19 +250,6 @@ fn coordinates(call: u8, places: usize) -> Vec<[[u32; 6]; 2]> {
                 ends[i / 3][i % 3] = sign * c;
                 of_steps(call, ends[0], ends[1])
             }));
-        }
-    }
-    pairs
-}
-
-/// Ends one step apart in one coordinate, and equal ones.
-fn ends(call: u8) -> Vec<[[u32; 6]; 2]> {
-    let mut pairs = Vec::new();
-    for i in 0..3 {
-        for step in [1, -1] {
-            let mut b = A;
-            b[i] += step;
-            pairs.push([of_steps(call, A, b), of_steps(call, A, A)]);
         }
     }
     pairs

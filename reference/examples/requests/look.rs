@@ -169,24 +169,14 @@ impl Look {
         for (i, c) in six.into_iter().enumerate() {
             self.see(What::RayCoordinate, i, c);
         }
-        self.see(What::Ends, 0, apart(six));
     }
 
-    /// Where each float is a step, the ends too.
     fn floats(&mut self, six: [f32; 6]) {
-        let before = self.wrong.len();
         for (i, float) in six.into_iter().enumerate() {
             self.see(What::Float, i, float_kind(float));
             if is_step(float) {
                 self.see(What::FloatSteps, i, (f64::from(float) * 64.0) as i64);
             }
-        }
-        if self.wrong.len() == before {
-            self.see(
-                What::Ends,
-                0,
-                apart(six.map(|f| (f64::from(f) * 64.0) as i64)),
-            );
         }
     }
 }
@@ -194,22 +184,6 @@ impl Look {
 /// The unsigned number of two bytes.
 fn two(bytes: &[u8], at: usize) -> u16 {
     u16::from(bytes[at]) + 256 * u16::from(bytes[at + 1])
-}
-
-/// 0 for equal ends, 1 to 6 for ends one step apart: x up, x down, y up and so
-/// on; 7 for others.
-fn apart(six: [i64; 6]) -> i64 {
-    let way = [0, 1, 2].map(|i| six[3 + i] - six[i]);
-    match way {
-        [0, 0, 0] => 0,
-        [1, 0, 0] => 1,
-        [-1, 0, 0] => 2,
-        [0, 1, 0] => 3,
-        [0, -1, 0] => 4,
-        [0, 0, 1] => 5,
-        [0, 0, -1] => 6,
-        _ => 7,
-    }
 }
 
 /// Whether the 64-fold is whole.

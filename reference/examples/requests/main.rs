@@ -1,14 +1,16 @@
 //! A stream of requests with the reference's answers, for `robust/replay.c`:
 //! those at the limits of the questions, casts of the most probes, columns at the
 //! limits of the rule for their middles, first hits at the figure of their probes,
-//! then N on damaged files, drawings and saved records, and one on a whole file,
-//! drawing or record after each seven of them.
+//! rays whose ends coincide or are a step apart, then N on damaged files, drawings
+//! and saved records, and one on a whole file, drawing or record after each seven
+//! of them.
 //!
 //!     cargo run --release --offline --example requests -- N SEED > STREAM
 //!
 //! How often each side of each limit occurs, each step of a total to its ceiling,
-//! each limit of a middle and each of a first hit's figure, is counted and printed to
-//! standard error; where one does not, the program fails.
+//! each limit of a middle, each of a first hit's figure and each way that a ray's ends
+//! coincide or are a step apart, is counted and printed to standard error; where one
+//! does not, the program fails.
 //!
 //! Every number is little-endian. A request is 108 bytes, then the file, or the
 //! numbers that a write is given, four bytes each, or the saved record, then the
@@ -33,11 +35,13 @@
 //! first hit; 5 to 9 the same, counted; 10 check, 11 bounds, 12 write, 13 read,
 //! 14 saved record.
 
+mod apart;
 mod costs;
 mod damaged;
 #[path = "../../tests/common/drawings.rs"]
 mod drawings;
 mod drawn;
+mod ends;
 #[path = "../../tests/common/expected.rs"]
 mod expected;
 #[path = "../../tests/common/floats.rs"]
@@ -56,8 +60,10 @@ mod sides;
 mod sums;
 mod write_limits;
 
+use apart::Apart;
 use costs::Costs;
 use drawn::drawn;
+use ends::ends;
 use hits::hits;
 use longest::longest;
 use middles::middles;
@@ -75,6 +81,7 @@ struct Stream<W: Write> {
     reached: Reached,
     sums: Sums,
     costs: Costs,
+    apart: Apart,
     requests: u64,
 }
 
@@ -85,24 +92,27 @@ impl<W: Write> Stream<W> {
         self.reached.count(request);
         self.sums.count(request);
         self.costs.count(request);
+        self.apart.count(request);
         request.write(&mut self.to)
     }
 
     /// How often each of what is counted occurs, with its name.
     fn counts(&self) -> Vec<(i64, String)> {
         let [sides, reached] = [self.sides.counts(), self.reached.counts()];
-        [sides, reached, self.sums.counts(), self.costs.counts()].concat()
+        let [sums, costs] = [self.sums.counts(), self.costs.counts()];
+        [sides, reached, sums, costs, self.apart.counts()].concat()
     }
 
     /// The same, taken together.
     fn tables(&self) -> String {
         let [sides, reached] = [self.sides.table(), self.reached.table()];
-        [sides, reached, self.sums.table(), self.costs.table()].join("\n")
+        let [sums, costs] = [self.sums.table(), self.costs.table()];
+        [sides, reached, sums, costs, self.apart.table()].join("\n")
     }
 
     /// Every request of the stream.
     fn put_all(&mut self, random: &mut SplitMix64, damaged: u64) -> io::Result<()> {
-        let first = [limits::at_limits, longest, middles, hits].map(|made| made(random));
+        let first = [limits::at_limits, longest, middles, hits, ends].map(|made| made(random));
         let mut first = first.iter().flatten();
         first.try_for_each(|request| self.put(request))?;
         for i in 1..=damaged {
@@ -129,14 +139,15 @@ fn main() -> io::Result<()> {
         reached: Reached::default(),
         sums: Sums::default(),
         costs: Costs::default(),
+        apart: Apart::default(),
         requests: 0,
     };
     stream.put_all(&mut SplitMix64::new(seed), damaged)?;
     eprint!("{}", stream.tables());
     let least = least(stream.counts().into_iter()).map_err(io::Error::other)?;
     eprintln!(
-        "{} requests, {least} or more on each side of each limit, of each step of a total, at each limit of a middle and at each \
-         of a first hit's figure, in each call that has it",
+        "{} requests, {least} or more on each side of each limit, of each step of a total, at each limit of a middle, at each of a \
+         first hit's figure and of each kind of ends, in each call that has it",
         stream.requests
     );
     Ok(())

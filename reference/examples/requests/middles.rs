@@ -22,7 +22,7 @@ fn on_surface() -> Scene {
 
 /// Two points whose bounds at (1, 0, 0) are not equal and add up to 2^33, to 1 less
 /// and to 1 more.
-fn about_the_sum() -> [Scene; 3] {
+pub fn about_the_sum() -> [Scene; 3] {
     let pair = |[one, other]: [(u16, [i16; 3], i16); 2]| {
         let file = FileBuilder::new(1).point(one.0, one.1, one.2);
         (file.point(other.0, other.1, other.2).sum(), WHOLE)

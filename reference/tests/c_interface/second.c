@@ -3,12 +3,16 @@
 #include "fenalukki.h"
 #include "fenalukki.h"
 
-#if FENALUKKI_VERSION_NUMBER < 30100 || FENALUKKI_REFUSED_SAVED != FENALUKKI_REFUSALS
+#if FENALUKKI_VERSION_NUMBER < 40000 || FENALUKKI_REFUSED_SAVED != FENALUKKI_REFUSALS
 #error "names of fenalukki.h do not agree"
 #endif
 
 #if FENALUKKI_TOTALS_MAX != 0xffffffffffffffff || FENALUKKI_SAVED_BYTES != 4 * FENALUKKI_TOTALS
 #error "names of totals do not agree"
+#endif
+
+#ifdef FENALUKKI_REFUSED_EQUAL_ENDS
+#error "fenalukki.h has a name for 13, which is not given"
 #endif
 
 enum { MARKS = FENALUKKI_MARKS_BYTES };
@@ -17,7 +21,7 @@ static const int64_t most_field = FENALUKKI_WEIGHT_MAX * FENALUKKI_BOUNDS_ONE;
 
 int second_unit(uint64_t number);
 
-/* 1 to 18 for a refusal number, 20 for any other number. */
+/* 1 to 12 or 14 to 18 for a refusal number, 20 for any other number. */
 int second_unit(uint64_t number)
 {
     static uint8_t marks[MARKS];
@@ -35,7 +39,6 @@ int second_unit(uint64_t number)
     case FENALUKKI_REFUSED_TOO_MANY_HELD:
     case FENALUKKI_REFUSED_NOT_ONE_HELD:
     case FENALUKKI_REFUSED_COORDINATE:
-    case FENALUKKI_REFUSED_EQUAL_ENDS:
     case FENALUKKI_REFUSED_ROOM:
     case FENALUKKI_REFUSED_FLOAT:
     case FENALUKKI_REFUSED_NUMBERS:

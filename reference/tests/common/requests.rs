@@ -21,7 +21,8 @@ pub fn file(random: &mut SplitMix64, part: &Part) -> Vec<u8> {
     file
 }
 
-/// A ray, mostly one that comes near a point; one that is refused once in ten.
+/// A ray, mostly one that comes near a point; one that is refused once in fifteen,
+/// and one of no length once in thirty.
 #[allow(dead_code)]
 pub fn ray(random: &mut SplitMix64, part: &Part) -> Ray {
     let far = random.pick(&[2048, -2048, 65_536, i32::MAX, i32::MIN]);

@@ -160,12 +160,46 @@ fn weights_4_and_minus_4_cancel() {
     assert_eq!(hit, FirstHit::Clear { probes });
 }
 
+/// Every tick is the one place, whose bounds mark it; the bits where the place is
+/// undecided go by their sum.
+#[test]
+fn ends_that_coincide() {
+    let k = file_k();
+    for (at, probes, mark, solid) in [
+        ([5, 6, 7], 1, 2, 1024),
+        ([256, 256, 0], 1, 2, 1024),
+        ([362, 5, 2], 2047, 1, 0),
+        ([512, 0, 0], 1, 0, 0),
+        ([2047, -2047, 2047], 1, 0, 0),
+    ] {
+        let ray = Ray { a: at, b: at };
+        let bits = assert_cast(&k, &ray, probes, &[(mark, 0, 1024)]);
+        assert_eq!(bits.len(), solid);
+        let mut host = Host::default();
+        let hit = host.first_hit(&k, &ray, 2047);
+        let viewed = host.viewer_first_hit(&k, &in_millimetres(&ray), 2047);
+        assert_eq!(viewed.in_ticks(), hit);
+        let (tick, mark) = (
+            0,
+            [Mark::Empty, Mark::Crossing, Mark::Inside][mark as usize],
+        );
+        let expected = match mark {
+            Mark::Empty => FirstHit::Clear { probes },
+            Mark::Crossing => FirstHit::Hit {
+                tick,
+                mark,
+                probes: 11,
+            },
+            Mark::Inside => FirstHit::Hit { tick, mark, probes },
+        };
+        assert_eq!(hit, expected);
+    }
+}
+
 #[test]
 fn refused_rays() {
     let k = file_k();
-    let (a, b) = ([5, 6, 7], [5, 6, 7]);
-    let met = Ray { a, b };
-    assert_refused(&k, &met, 13);
+    let b = [5, 6, 7];
     for far in [2048, -2048] {
         let ray = Ray { a: [0, far, 0], b };
         assert_refused(&k, &ray, 12);

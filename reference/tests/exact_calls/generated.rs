@@ -85,12 +85,18 @@ impl Run {
         let (_, room) = room(&mut self.random, 1024);
         let (answer, marks) = self.host.full_cast(file, ray, budget, room);
         self.coverage.full_cast(answer, &marks);
+        if ray.has_no_length() && answer.probes().is_some() {
+            self.coverage.count("no length", "full cast");
+        }
         self.marches(file, ray);
         let count = self.first_hits(file, ray).unwrap_or(1);
         let (view, _) = changed(&mut self.random, &in_millimetres(ray));
         let budget = self.budget(count);
         let answer = self.host.viewer_first_hit(file, &view, budget);
         self.coverage.viewer(answer);
+        if view.a == view.b && answer.probes().is_some() {
+            self.coverage.count("no length", "viewer");
+        }
     }
 
     fn scenes(&mut self, count: usize, part: impl Fn(&mut SplitMix64, usize) -> Part) {

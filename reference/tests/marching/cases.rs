@@ -146,10 +146,20 @@ fn refused_files() {
     assert_refused(&k.mark([0; 4]).build(), &Ray { a, b }, 2);
 }
 
+/// Inside and outside file K's solid every tick has the place's mark after 5 probes;
+/// where the bounds are on both sides of iso, every tick is crossing.
+#[test]
+fn ends_that_coincide() {
+    for (at, mark) in [([5, 6, 7], 2), ([512, 0, 0], 0)] {
+        let ray = Ray { a: at, b: at };
+        assert_every_budget(&file_k(), &ray, 5, &[(mark, 0, 1024)]);
+    }
+    let (a, b) = ([362, 5, 2], [362, 5, 2]);
+    assert_most_probes(&Scene::new(file_k(), Ray { a, b }), 1);
+}
+
 #[test]
 fn refused_rays() {
-    let (a, b) = ([5, 6, 7], [5, 6, 7]);
-    assert_refused(&file_k(), &Ray { a, b }, 13);
     let (a, b) = ([2048; 3], [2048; 3]);
     assert_refused(&file_k(), &Ray { a, b }, 12);
     for value in [2048, -2048, 65_536, i32::MAX, i32::MIN] {

@@ -26,6 +26,8 @@ pub struct Coverage {
     /// Accepted rays on which the march makes fewer probes than the full cast, as
     /// many, and more.
     pub against_halving: [u32; 3],
+    /// Accepted rays of no length.
+    pub no_length: u32,
     pub cuts: Cuts,
 }
 
@@ -54,6 +56,7 @@ impl Coverage {
             Ordering::Greater => 2,
         };
         self.against_halving[place] += 1;
+        self.no_length += u32::from(scene.ray.has_no_length());
         self.cuts.count(scene);
     }
 }

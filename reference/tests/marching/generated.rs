@@ -86,7 +86,9 @@ impl Run {
 fn assert_populated(coverage: &Coverage, share: u32) {
     let all = |classes: &[u32], least: u32| classes.iter().all(|&n| n >= least / share);
     assert_eq!(coverage.requests, 19_700 / share);
-    assert!(all(&coverage.refused[1..], 100));
+    assert!(all(&coverage.refused[1..=12], 100) && all(&coverage.refused[14..], 100));
+    assert_eq!(coverage.refused[13], 0);
+    assert!(all(&[coverage.no_length], 200));
     assert!(all(&[coverage.complete, coverage.spent], 4_000));
     assert!(all(&coverage.marks, 3_000));
     assert!(all(&coverage.budgets, 1_200) && all(&coverage.rooms, 1_000));

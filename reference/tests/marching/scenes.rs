@@ -17,7 +17,7 @@ pub struct Scene {
 }
 
 impl Scene {
-    fn new(file: Vec<u8>, ray: Ray) -> Scene {
+    pub fn new(file: Vec<u8>, ray: Ray) -> Scene {
         let part = read(&file).expect("an accepted file");
         Scene { part, file, ray }
     }

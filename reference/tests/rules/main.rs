@@ -13,7 +13,7 @@ use reference::cast::{judge_tick, probe_count};
 use reference::field::{ExactField, Ray};
 use reference::generate::{self, Shape, SplitMix64, STYLES};
 use reference::march::{march_count, FIRST_CANDIDATE};
-use reference::part::{FileBuilder, Part};
+use reference::part::{read, FileBuilder, Part};
 use reference::quick::TickField;
 
 struct Case {
@@ -99,6 +99,22 @@ fn large_weights() {
         iso: (1, 300),
     };
     run(43, &shape, 20);
+}
+
+/// File K at places inside, outside and undecided, and generated parts.
+#[test]
+fn rays_of_no_length() {
+    let at = |at| Ray { a: at, b: at };
+    let k = read(&worked::file_k()).expect("accepted");
+    for place in [[0; 3], [256, 256, 0], [362, 5, 2], [512, 0, 0]] {
+        Case::new(k.clone(), at(place)).check();
+    }
+    let mut random = SplitMix64::new(45);
+    for _ in 0..26 {
+        let part = generate::cancelling_or_bored(&mut random);
+        let ray = generate::no_length(&mut random, &part);
+        Case::new(part, ray).check();
+    }
 }
 
 #[test]
