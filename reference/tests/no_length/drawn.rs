@@ -98,6 +98,14 @@ fn heavy(random: &mut SplitMix64) -> Option<Scene> {
     (accepted && scene.mark == Mark::Crossing).then_some(scene)
 }
 
+/// So many of these, one of at most a hundred places drawn for each.
+fn all_heavy(random: &mut SplitMix64, count: usize) -> Vec<Scene> {
+    let tried = repeat_with(|| heavy(random)).take(100 * count);
+    let found: Vec<Scene> = tried.flatten().take(count).collect();
+    assert_eq!(found.len(), count);
+    found
+}
+
 /// Drawn places of a part, and undecided ones.
 fn scenes(random: &mut SplitMix64, part: &Part) -> Vec<Scene> {
     let mut place = || Scene::new(part.clone(), no_length(random, part).a);
@@ -130,7 +138,7 @@ fn all(random: &mut SplitMix64) -> Vec<(&'static str, Scene)> {
         let places = drawn.chain(undecided);
         all.extend(places.map(|at| ("example", Scene::new(part.clone(), at))));
     }
-    let undecided = repeat_with(|| heavy(random)).flatten().take(HEAVY);
+    let undecided = all_heavy(random, HEAVY).into_iter();
     all.extend(undecided.map(|scene| ("heavy", scene)));
     all
 }
@@ -175,9 +183,7 @@ impl Seen {
 
 /// Drawn undecided places of heavy points.
 pub fn some_undecided(seed: u64, count: usize) -> Vec<Scene> {
-    let mut random = SplitMix64::new(seed);
-    let scenes = repeat_with(|| heavy(&mut random)).flatten();
-    scenes.take(count).collect()
+    all_heavy(&mut SplitMix64::new(seed), count)
 }
 
 #[test]

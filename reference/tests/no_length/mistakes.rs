@@ -191,9 +191,12 @@ const MISTAKES: [(&str, Mistake); 20] = [
     }),
     ("bits 1 only above twice iso", |call, scene, budget| {
         let Bounds { low, high } = scene.bounds;
-        match call == Call::Column && low + high == 2 * i64::from(scene.part.iso) << 32 {
-            true => with_bytes(call, scene, budget, |bits| bits.fill(0)),
-            false => right(call, scene, budget),
+        let twice_iso = low + high == 2 * i64::from(scene.part.iso) << 32;
+        match (call, scene.mark) {
+            (Call::Column, Mark::Crossing) if twice_iso => {
+                with_bytes(call, scene, budget, |bits| bits.fill(0))
+            }
+            _ => right(call, scene, budget),
         }
     }),
 ];
