@@ -1,8 +1,9 @@
-/* A host: slice PART PICTURE.png [AXIS PLACE [march | ticks TICK ROW]] casts rays
- * through the part file PART and writes a picture: a plane at right angles to an
- * axis, a depth image, where along a plane's rays a marching cast takes fewer
- * probes than a full cast and where more, or some of a plane's ticks, large. All
- * arithmetic is in whole numbers, so the pictures are the same on every machine.
+/* A host: slice PART PICTURE.png [AXIS PLACE [march | (ticks | places) TICK ROW]]
+ * casts rays through the part file PART and writes a picture: a plane at right
+ * angles to an axis, a depth image, where along a plane's rays a marching cast
+ * takes fewer probes than a full cast and where more, or some of a plane's ticks
+ * or of its places, large. All arithmetic is in whole numbers, so the pictures are
+ * the same on every machine.
  * Lengths are in steps of 1/64 mm, coordinates -2,047 to 2,047. */
 #include "fenalukki.h"
 #include "host.h"
@@ -383,6 +384,65 @@ static int write_ticks(const struct part *part, const struct plane *plane,
     return 1;
 }
 
+/* The whole-step places of such a window, each asked about by a ray whose ends
+ * coincide there, as a viewer's cursor does: a cell for a place, an inside one
+ * white, an empty one dark, a crossing one orange. */
+
+enum { SIDE = CELL / 2, PLACES = TICKS / SIDE, PLACE_ROWS = WINDOW_HEIGHT / SIDE };
+
+/* Of the place i steps on and `down` steps below the window's upper left one;
+ * FENALUKKI_NOT_LOOKED_AT where the call is refused. */
+static int ask_place(const struct part *part, const struct plane *plane,
+                     const struct window *window, int i, int down)
+{
+    int32_t at[3];
+    uint64_t answer;
+
+    at[plane->axis] = plane->place;
+    at[along_rows[plane->axis]] = -PLANE_END + 2 * window->tick + i;
+    at[across_rows[plane->axis]] = PLANE_END - 1 - 2 * window->row - down;
+    answer = fenalukki_first_hit(part->bytes, part->length, at[0], at[1], at[2], at[0], at[1],
+                                 at[2], fenalukki_hit_budget(0));
+    if (answer < FIRST_ANSWER) {
+        print_refusal("first hit", (unsigned long)answer);
+        return FENALUKKI_NOT_LOOKED_AT;
+    }
+    return fenalukki_mark(answer);
+}
+
+static void colour_place(int mark, int i, uint8_t rows[SIDE][TICKS])
+{
+    static const int colour[] = {2 * IS_EMPTY, 2 * IS_LEFT_OUT, 2 * IS_INSIDE + 1};
+    int y, x;
+
+    for (y = 0; y < SIDE; y++)
+        for (x = 0; x < SIDE; x++)
+            rows[y][SIDE * i + x] = (uint8_t)(x == 0 || y == 0 ? 2 * KINDS : colour[mark]);
+}
+
+static int write_places(const struct part *part, const struct plane *plane,
+                        const struct window *window, const char *path)
+{
+    static uint8_t rows[WINDOW_HEIGHT][TICKS];
+    unsigned long counts[FENALUKKI_NOT_LOOKED_AT + 1] = {0};
+    int i;
+
+    for (i = 0; i < PLACES * PLACE_ROWS; i++) {
+        int mark = ask_place(part, plane, window, i % PLACES, i / PLACES);
+
+        if (mark == FENALUKKI_NOT_LOOKED_AT)
+            return 0;
+        counts[mark]++;
+        colour_place(mark, i % PLACES, rows + SIDE * (i / PLACES));
+    }
+    if (!write_picture(path, TICKS, WINDOW_HEIGHT, 8, &palette, rows[0]))
+        return 0;
+    printf("%s: plane %c %ld, %d places; %lu inside, %lu crossing\n", path, axes[plane->axis],
+           (long)plane->place, PLACES * PLACE_ROWS, counts[FENALUKKI_INSIDE],
+           counts[FENALUKKI_CROSSING]);
+    return 1;
+}
+
 /* The depth image: the first hits of its rays. The nearest hit is white, the
  * farthest dark grey, clear black. */
 
@@ -489,12 +549,12 @@ static int read_window(char **words, struct window *window)
 static int print_usage(void)
 {
     fprintf(stderr,
-            "usage: slice PART PICTURE.png [AXIS PLACE [march | ticks TICK ROW]]\n"
+            "usage: slice PART PICTURE.png [AXIS PLACE [march | (ticks | places) TICK ROW]]\n"
             "With AXIS x, y or z: the plane at PLACE on it, white where a column's bit is 1;\n"
             "with march: how many probes fewer (brighter) or more (darker) a marching cast\n"
             "takes to each tick than a full cast; with ticks: 32 ticks from TICK on, 0 to\n"
-            "992, of 20 rows from ROW on, 0 to 1004. Without: the part seen obliquely, the\n"
-            "brighter the nearer.\n"
+            "992, of 20 rows from ROW on, 0 to 1004; with places: each whole-step place\n"
+            "there. Without: the part seen obliquely, the brighter the nearer.\n"
             "Status 1 where a call is refused, with its number, or a file cannot be\n"
             "read or written.\n");
     return 0;
@@ -506,17 +566,21 @@ int main(int argc, char **argv)
     struct plane plane = {0, 0};
     struct window window = {0, 0};
     int marches = argc == 6 && strcmp(argv[5], "march") == 0;
-    int zooms = argc == 8 && strcmp(argv[5], "ticks") == 0 && read_window(argv + 6, &window);
+    int zooms = argc == 8 && read_window(argv + 6, &window);
+    int ticks = zooms && strcmp(argv[5], "ticks") == 0;
+    int places = zooms && strcmp(argv[5], "places") == 0;
     int written;
 
-    if (argc != 3 && !((argc == 5 || marches || zooms) && read_plane(argv + 3, &plane)))
+    if (argc != 3 && !((argc == 5 || marches || ticks || places) && read_plane(argv + 3, &plane)))
         written = print_usage();
     else if (!read_part("slice", argv[1], &part))
         written = 0;
     else if (marches)
         written = write_march(&part, &plane, argv[2]);
-    else if (zooms)
+    else if (ticks)
         written = write_ticks(&part, &plane, &window, argv[2]);
+    else if (places)
+        written = write_places(&part, &plane, &window, argv[2]);
     else if (argc == 5)
         written = write_plane(&part, &plane, argv[2]);
     else
