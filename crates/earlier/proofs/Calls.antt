@@ -1,6 +1,6 @@
--- "Every ray that was answered before has its old answer" (document 02, P8), its bytes too, and so has every call that was refused with another number
--- than 13 (`kept`, `kept-view`); and 13 was answered of equal ends alone (`equal-ends`, `equal-view-ends`). A question that is answered yes leaves the
--- first no of the others as it is, and one that comes after a no is not heard.
+-- "Every ray that was answered before has its old answer" (document 02, P8), its bytes too, and so has every call that was refused with another
+-- number than 13 (`kept`, `kept-view`); and 13 was answered of equal ends alone (`equal-ends`, `equal-view-ends`). A question that is answered yes
+-- leaves the first no of the others as it is, and one that comes after a no is not heard.
 use mathlib.Core.Path.{_≡_, refl, sym, _∙_}
 use mathlib.Core.Logic.{inl, inr}
 use mathlib.Core.List.{List, [], _∷_, _++_, append-nil}

@@ -75,7 +75,9 @@ module _ (p : Position) where
   no-foot c s = go (footInside (raySquare ray) (prepare ray c) s) refl
     where
       go : (b : Bool) → footInside (raySquare ray) (prepare ray c) s ≡ b → b ≡ false
-      go true e = let l : 0 < natAbs (raySquare ray) = foot-positive (raySquare ray) (prepare ray c) s e in absurd (omega (arith, l, ap natAbs no-square))
+      go true e =
+          let l : 0 < natAbs (raySquare ray) = foot-positive (raySquare ray) (prepare ray c) s e in
+          absurd (omega (arith, l, ap natAbs no-square))
       go false e = refl
 
   -- ---- a point

@@ -93,7 +93,7 @@ pub record Inside (t s : Span) : Type 0 where
   pub from : s .from * t .ticks ≤ t .from * s .ticks
   pub to : t .to * s .ticks ≤ s .to * t .ticks
 
--- "one whole-step place": the ray that stays there, and its start alone, the place 0/1
+-- "one whole-step place": the ray that stays there, whose ends coincide (document 02, P8), and its start alone, the place 0/1
 abbrev pub constantRay : Position → Ray
 constantRay p = record { start = p; end = p }
 

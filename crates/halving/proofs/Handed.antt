@@ -1,5 +1,5 @@
--- What a cast hands over: the marks of the ticks that it looked at, stored from the buffer's start on, and then 3 for the others (`handed-over`); of a
--- complete one, every mark (`handed-all`).
+-- What a cast hands over: the marks of the ticks that it looked at, stored from the buffer's start on, and then 3 for the others (`handed-over`);
+-- of a complete one, every mark (`handed-all`).
 use Prim.Native.Nat.{ℕ, _+_, _-_, _≤_}
 use mathlib.Core.Path.{_≡_, sym, ap, _∙_}
 use mathlib.Core.List.{List, _++_, append-nil}

@@ -1,6 +1,6 @@
 -- A ray of which every span is in one state, as one whose ends coincide (document 02, P8): decided, one probe tells all; undecided, every span is
--- probed, 2^(k + 1) − 1 for 2^k ticks (`count-uniform`). Each mark is that state (`marks-uniform`), and the first hit is at the first tick, or there is
--- none (`hit-uniform`).
+-- probed, 2^(k + 1) − 1 for 2^k ticks (`count-uniform`). Each mark is that state (`marks-uniform`), and the first hit is at the first tick, or there
+-- is none (`hit-uniform`).
 use Prim.Native.Nat.{ℕ, zero, suc, _+_, _*_, _-_, _^_, _<_}
 use mathlib.Core.Path.{_≡_, refl, ap, ap₂, _∙_}
 use mathlib.Core.List.{List, _++_}

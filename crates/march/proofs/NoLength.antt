@@ -84,7 +84,8 @@ module _ (file : List ℕ) (p : Position) {b : Bounds} (bounded : placeBounds fi
   unfolding marchingCast marchedLeft castAfter marksAfter
   place-march budget lent few room =
       let marched : rayMarch solid ray exponent budget ≡ cast.Complete (probesOf s)
-      = enough (rayState solid ray (2 ^ exponent)) (2 ^ exponent) budget (omega (arith, few, place-march-probes)) ∙ ap cast.Complete place-march-probes in
+      = enough (rayState solid ray (2 ^ exponent)) (2 ^ exponent) budget (omega (arith, few, place-march-probes))
+      ∙ ap cast.Complete place-march-probes in
       rw (buffer-accepted file p bounded (2 ^ exponent) (length lent) room, marched, marks-are) (
         refl,
         ap (λ (l : List ℕ). l ++ drop (2 ^ exponent) lent)

@@ -1,5 +1,5 @@
--- The viewer's cursor (document 02, P8): six floats whose two ends are one place in steps, minus zero being 0. They are answered as a first hit on the
--- ray that stays there (`cursor`), so by what the place call answers of that place (`place-view`).
+-- The viewer's cursor (document 02, P8): six floats whose two ends are one place in steps, minus zero being 0. They are answered as a first hit on
+-- the ray that stays there (`cursor`), so by what the place call answers of that place (`place-view`).
 use mathlib.Core.Path.{_≡_, sym, ap, _∙_}
 use mathlib.Core.List.{List}
 use mathlib.Core.Bool.{true, cond}
