@@ -145,7 +145,7 @@ module _ (file : List ℕ) (p : Position) where
         × (bitsLeft file ray lent ≡ replicate columnBytes (255 * cond (solidBy (iso file) b) 1 0) ++ drop columnBytes lent)
     unfolding columnAnswer columnAfter bitsLeft bitsAfter
     place-column lent room =
-        let bit = cond (solidBy (iso file) b) 1 0 in
+        let bit : ℕ = cond (solidBy (iso file) b) 1 0 in
         let bits = packed-all (bitOf solid ray (2 ^ exponent)) bit columnBytes (λ t h. place-bits (pow-pos exponent) t) in
         rw (buffer-accepted columnBytes (length lent) room)
         (ap column.Complete (place-probes exponent), ap (λ (l : List ℕ). l ++ drop columnBytes lent) bits)
