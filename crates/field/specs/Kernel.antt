@@ -1,8 +1,9 @@
--- The kernel (document 01, "The field"): "a point of weight w gives w × u², where u = 1 − d²/r² if d < r and 0 otherwise".
--- The power of u, and what is rounded or tolerated on account of it, is a parameter: document 01's kernel is `quartic`.
-use Prim.Native.Nat.{ℕ, _*_, _-_, _^_}
+-- The kernel (document 01, "The field"): "a point of weight w gives w × u², where u = 1 − d²/r² if d < r and 0 otherwise"; of degree 6 (document 02,
+-- P9) it is "u³". The power of u, and what is rounded or tolerated on account of it, is a parameter: `quartic` and `sextic` are the two kernels.
+use Prim.Native.Nat.{ℕ, _*_, _-_, _/_, _^_}
 use lib.IntN.{pos}
 use Rattle.exact.specs.Fraction.{Fraction, _over_, times}
+use Rattle.exact.specs.Rounding.{ceil}
 use Rattle.record.specs.declared.Node.{Node}
 use Rattle.field.specs.declared.Ray.{Ray}
 use Rattle.field.specs.Ray.{radius, squaredDistance}
@@ -25,6 +26,11 @@ pub record Kernel : Type 0 where
 abbrev pub quartic : Kernel
 quartic = record { power = 2; low = λ q. q * q; high = λ q. q * q; slope = 4; slack = pos 1 over 16384 }
 
+-- "degree 6 of the same published kernel, u³": "the sizes are qlo³/65536 rounded down and qhi³/65536 rounded up", and a tick's tolerance "uses
+-- 3S/(512 r) + 7/65536", with 1,024 ticks
+abbrev pub sextic : Kernel
+sextic = record { power = 3; low = λ q. q * q * q / 65536; high = λ q. ceil (q * q * q) 65536; slope = 6; slack = pos 7 over 65536 }
+
 -- ---- u at the place n/m: uNum/uDen
 
 -- r² × m²
@@ -39,6 +45,6 @@ uNum ray p n m = uDen p m - squaredDistance ray p n m
 unfoldable pub u : Ray → Node → ℕ → ℕ → Fraction
 u ray p n m = pos (uNum ray p n m) over uDen p m
 
--- "a point of weight w gives w × u²": w × u^power
+-- "a point of weight w gives w × u²", of degree 6 w × u³: w × u^power
 unfoldable pub pointAt : Kernel → Ray → ℕ → ℕ → Node → Fraction
 pointAt k ray n m p = times (p .weight) (pos (uNum ray p n m ^ k .power) over (uDen p m ^ k .power))

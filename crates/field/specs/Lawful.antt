@@ -1,4 +1,4 @@
--- What the theorems ask of a kernel. Document 01's has it (`quartic-lawful`).
+-- What the theorems ask of a kernel, of whatever degree. Both have it (`quartic-lawful`, `sextic-lawful`).
 use mathlib.Core.Path.{_≡_}
 use Prim.Native.Nat.{ℕ, _+_, _*_, _-_, _^_, _≤_}
 use lib.IntN.{pos}

@@ -129,5 +129,5 @@ module _ (lead file : List ℕ) where
       leading-ignored = rw questions-moved (same (firstNo (fileQuestions file)))
         where
           same : (v : Verdict) → answerOf v (lead ++ file) ≡ answerOf v file
-          same Yes = rw (count-moved, iso-moved)
+          same Yes = rw (count-moved, iso-moved, version-moved)
           same (No n) = refl

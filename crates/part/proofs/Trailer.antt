@@ -13,7 +13,7 @@ use Rattle.exact.proofs.Tests.{both-true, between-true}
 use Rattle.record.specs.Questions.{firstNo}
 use Rattle.record.specs.declared.Verdict.the-variants.{Yes}
 use Rattle.record.proofs.Questions.{all-yes, yes-append}
-use Rattle.part.specs.File.{iso, distance, trailerQuestions, start, count, records, recordsQuestions, fileQuestions}
+use Rattle.part.specs.File.{iso, version, distance, trailerQuestions, start, count, records, recordsQuestions, fileQuestions}
 use Rattle.part.specs.Accepted.{Trailer}
 
 pub trailer-facts : (file : List ℕ) → firstNo (trailerQuestions file) ≡ Yes → Trailer file
@@ -22,6 +22,7 @@ trailer-facts file ok =
     let d = distance file in
     let q = all-yes (trailerQuestions file) ok in
     let length-ok = between-true 24 65536 (length file) (q 0) in
+    let version-ok = between-true 1 2 (version file) (q 2) in
     let q4 = both-true (between 24 6144 d && eqb (d % 12) 0) (leb d (length file)) (q 3) in
     let q4-low = both-true (between 24 6144 d) (eqb (d % 12) 0) (q4 .0) in
     let d-ok = between-true 24 6144 d (q4-low .0) in
@@ -29,6 +30,8 @@ trailer-facts file ok =
     record {
       long = length-ok .0;
       short = length-ok .1;
+      version-low = version-ok .0;
+      version-high = version-ok .1;
       distance-low = d-ok .0;
       distance-high = d-ok .1;
       distance-whole = eqb-true (d % 12) 0 (q4-low .1);

@@ -6,12 +6,14 @@ use lib.ListN.{length}
 use Rattle.record.specs.Nodes.{heldAfter}
 use Rattle.record.specs.Ranges.{Ready}
 use Rattle.record.specs.declared.Node.{Node}
-use Rattle.part.specs.File.{iso, distance, count, nodes}
+use Rattle.part.specs.File.{iso, version, distance, count, nodes}
 
--- the trailer's numbers (questions 1, 4 and 5)
+-- the trailer's numbers (questions 1, 3, 4 and 5)
 pub record Trailer (file : List ℕ) : Type 0 where
   pub long : 24 ≤ length file
   pub short : length file ≤ 65536
+  pub version-low : 1 ≤ version file
+  pub version-high : version file ≤ 2
   pub distance-low : 24 ≤ distance file
   pub distance-high : distance file ≤ 6144
   pub distance-whole : distance file % 12 ≡ 0

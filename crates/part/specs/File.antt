@@ -1,4 +1,4 @@
--- The part file: its trailer, its records, the check of a file (document 01, "The part file"; questions 1 to 11).
+-- The part file: its trailer, its records, the check of a file (document 01, "The part file"; questions 1 to 11; document 02, P9).
 use Prim.Native.Nat.{ℕ, zero, suc, _+_, _-_, _/_, _%_}
 use mathlib.Core.Path.{_≡_}
 use mathlib.Core.List.{List, [], _∷_, _++_, map}
@@ -30,6 +30,10 @@ version file = u16 file (length file - 10)
 unfoldable pub distance : List ℕ → ℕ
 distance file = u32 file (length file - 8)
 
+-- version 1 means degree 4, version 2 "degree 6 for all their points" (document 02, P9)
+abbrev pub versionKnown : ℕ → Bool
+versionKnown v = between 1 2 v
+
 -- hexadecimal 54 52 45 45
 abbrev pub fileMark : List ℕ
 fileMark = 0x54 ∷ 0x52 ∷ 0x45 ∷ 0x45 ∷ []
@@ -42,7 +46,7 @@ unfoldable pub trailerQuestions : List ℕ → List Question
 trailerQuestions file =
     (1, between 24 65536 (length file))
     ∷ (2, marked file)
-    ∷ (3, eqb (version file) 1)
+    ∷ (3, versionKnown (version file))
     ∷ (4, between 24 6144 (distance file) && eqb (distance file % 12) 0 && leb (distance file) (length file))
     ∷ (5, between 1 4096 (iso file))
     ∷ []
@@ -82,9 +86,9 @@ recordsQuestions (r ∷ later) held = recordQuestions r held ++ recordsQuestions
 unfoldable pub fileQuestions : List ℕ → List Question
 fileQuestions file = trailerQuestions file ++ recordsQuestions (records file) 0
 
--- node count and iso-value
+-- node count, iso-value and version
 abbrev pub summary : List ℕ → Summary
-summary file = record { nodes = count file; iso = iso file }
+summary file = record { nodes = count file; iso = iso file; version = version file }
 
 -- these, or the refusal number
 unfoldable pub answerOf : Verdict → List ℕ → Checked
@@ -94,7 +98,8 @@ answerOf (No number) file = Refused number
 unfoldable pub checkFile : List ℕ → Checked
 checkFile file = answerOf (firstNo (fileQuestions file)) file
 
--- what each case of an answer says: that its number is the first no's; or that no question says no, and the node count and the iso-value
+-- what each case of an answer says: that its number is the first no's; or that no question says no, and the node count, the iso-value and the version
 unfoldable pub Says : List ℕ → Checked → Type 0
 Says file (Refused number) = firstNo (fileQuestions file) ≡ No number
-Says file (Accepted part) = (firstNo (fileQuestions file) ≡ Yes) × (part .nodes ≡ count file) × (part .iso ≡ iso file)
+Says file (Accepted part) =
+    (firstNo (fileQuestions file) ≡ Yes) × (part .nodes ≡ count file) × (part .iso ≡ iso file) × (part .version ≡ version file)

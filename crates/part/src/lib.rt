@@ -1,4 +1,4 @@
-// The part file: its trailer, its records, and its check (document 01, "The part file"; questions 1 to 11).
+// The part file: its trailer, its records, and its check (document 01, "The part file"; questions 1 to 11; document 02, P9).
 
 use exact::both;
 use exact::is_between;
@@ -13,17 +13,18 @@ ghost use mathlib.Core.Path.{_≡_};
 ghost use Prim.Native.Nat.{_+_, _*_, _≤_};
 ghost use lib.ListN.{length};
 ghost use Rattle.record.specs.Questions.{firstNo};
-ghost use Rattle.part.specs.File.{iso, version, distance, marked, trailerQuestions, count, start, recordsFrom, recordsQuestions};
+ghost use Rattle.part.specs.File.{iso, version, versionKnown, distance, marked, trailerQuestions, count, start, recordsFrom, recordsQuestions};
 ghost use Rattle.part.specs.File.{fileQuestions, checkFile, Says};
 ghost use Rattle.part.specs.Accepted.{Trailer};
 
-// What stays the same of an accepted file through a call: its node count and its iso-value.
+// What stays the same of an accepted file through a call: its node count, its iso-value and its version, which is 1 or 2.
 pub struct Summary {
     pub nodes: usize,
     pub iso: usize,
+    pub version: usize,
 }
 
-// The check of a file: the refusal number, or the node count and the iso-value.
+// The check of a file: the refusal number, or the node count, the iso-value and the version.
 pub enum Checked {
     Refused(u32),
     Accepted(Summary),
@@ -52,6 +53,13 @@ fn distance_of(file: &[u8]) -> usize
     u32_at(file, file.len() - 8)
 }
 
+// Is it a version that is read: 1, degree 4, or 2, degree 6?
+pub fn is_known_version(version: usize) -> bool
+    ensures { λ r. ⌜ r ≡ versionKnown version ⌝ }
+{
+    is_between(1, 2, version)
+}
+
 // Are the last four bytes the mark?
 fn is_marked(file: &[u8]) -> bool
     requires { ⌜ 12 ≤ length (now file) ⌝ }
@@ -74,7 +82,7 @@ fn trailer_questions(file: &[u8]) -> Verdict
         return Verdict::No(1);
     }
     let mark = is_marked(file);
-    let version = version_of(file) == 1;
+    let version = is_known_version(version_of(file));
     let d = distance_of(file);
     let distance = both(both(is_between(24, 6144, d), d % 12 == 0), d <= n);
     let iso = is_between(1, 4096, iso_of(file));
@@ -145,5 +153,6 @@ pub fn check(file: &[u8]) -> Checked
     Checked::Accepted(Summary {
         nodes: count_of(file),
         iso: iso_of(file),
+        version: version_of(file),
     })
 }

@@ -1,5 +1,5 @@
 // A point of a part on a ray: whether a span of the ray comes within its radius, and its bounds over the span (document 01, "Bounds"; document 02,
-// P3).
+// P3 and P9).
 
 use exact::max_u64;
 use exact::min_u64;
@@ -186,6 +186,17 @@ fn weigh(w: i64, x: u64, y: u64) -> Bounds
     }
 }
 
+// The weight times the sizes of a lesser and a greater q: q², or of degree 6 q³/65536, rounded down and up.
+fn weigh_sizes(part: Summary, w: i64, low: u64, high: u64) -> Bounds
+    requires { ⌜ Small 4096 w × (low ≤ 65536) × (high ≤ 65536) ⌝ }
+    ensures { λ r. ⌜ r ≡ weighted w (kernelOf part .low low) (kernelOf part .high high) ⌝ }
+{
+    if part.version == 2 {
+        return weigh(w, low * low * low / 65536, (high * high * high + 65535) / 65536);
+    }
+    weigh(w, low * low, high * high)
+}
+
 // The bounds of a point over a span. Out of reach, both q are 0.
 pub fn span_bounds(part: Summary, a: i64, p: Reached, s: Span) -> Bounds
     requires { ⌜ ReachedRanges a p ⌝ }
@@ -202,5 +213,5 @@ pub fn span_bounds(part: Summary, a: i64, p: Reached, s: Span) -> Bounds
     }
     let low = low_q(whole, max_u64(i, j));
     let high = greatest_q(foot, p.peak, whole, min_u64(i, j));
-    weigh(point.weight, low * low, high * high)
+    weigh_sizes(part, point.weight, low, high)
 }

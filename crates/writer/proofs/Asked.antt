@@ -16,7 +16,7 @@ use Rattle.record.specs.Questions.{Question, firstNo, next}
 use Rattle.record.specs.declared.Verdict.{Verdict}
 use Rattle.record.specs.declared.Verdict.the-variants.{Yes, No}
 use Rattle.record.proofs.Questions.{firstNo-append, no-is-not-yes, all-yes, yes-append, no-numbered}
-use Rattle.part.specs.File.{recordsQuestions}
+use Rattle.part.specs.File.{versionKnown, recordsQuestions}
 use Rattle.part.proofs.File.{records-numbered}
 use Rattle.writer.specs.Bytes.{size}
 use Rattle.writer.specs.Given.{given, recordOf}
@@ -38,51 +38,58 @@ counted-facts n e =
     let z : n % 6 ≡ 0 = eqb-true (n % 6) 0 (p .1) in
     record { some = omega (arith, b .0); few = omega (arith, b .1); whole = omega arith }
 
-module _ (l : List ℤ) (i room place : ℕ) where
+module _ (l : List ℤ) (i v room place : ℕ) where
   abbrev pub nodesVerdict : Verdict
   nodesVerdict = firstNo (recordsQuestions (map recordOf (given l)) 0)
 
   abbrev pub lastVerdict : Verdict
   lastVerdict = cond (hasRoom (length l / 6) room place) Yes (No 17)
 
+  -- 3 and 5, then the nodes
+  abbrev pub givenVerdict : Verdict
+  givenVerdict = cond (versionKnown v) (cond (between 1 4096 i) nodesVerdict (No 5)) (No 3)
+
   -- the lists one after the other
-  in-order : firstNo (writerQuestions l i room place)
-      ≡ next (cond (counted (length l)) (cond (between 1 4096 i) nodesVerdict (No 5)) (No 16)) lastVerdict
+  in-order : firstNo (writerQuestions l i v room place) ≡ next (cond (counted (length l)) givenVerdict (No 16)) lastVerdict
   unfolding writerQuestions firstNo
   in-order =
-      firstNo-append ((16, counted (length l)) ∷ (5, between 1 4096 i) ∷ recordsQuestions (map recordOf (given l)) 0)
+      firstNo-append ((16, counted (length l)) ∷ (3, versionKnown v) ∷ (5, between 1 4096 i) ∷ recordsQuestions (map recordOf (given l)) 0)
       ((17, hasRoom (length l / 6) room place) ∷ [])
 
-  pub no-16 : counted (length l) ≡ false → firstNo (writerQuestions l i room place) ≡ No 16
+  pub no-16 : counted (length l) ≡ false → firstNo (writerQuestions l i v room place) ≡ No 16
   unfolding next
   no-16 e = rw (in-order, e)
 
-  pub from-5 : counted (length l) ≡ true → firstNo (writerQuestions l i room place) ≡ cond (between 1 4096 i) (next nodesVerdict lastVerdict) (No 5)
+  pub from-3 : counted (length l) ≡ true
+      → firstNo (writerQuestions l i v room place)
+      ≡ cond (versionKnown v) (cond (between 1 4096 i) (next nodesVerdict lastVerdict) (No 5)) (No 3)
   unfolding next
-  from-5 e = rw (in-order, e) (go (between 1 4096 i))
+  from-3 e = rw (in-order, e) (go (versionKnown v) (between 1 4096 i))
     where
-      go : (t : Bool) → next (cond t nodesVerdict (No 5)) lastVerdict ≡ cond t (next nodesVerdict lastVerdict) (No 5)
-      go true = refl
-      go false = refl
+      go : (s t : Bool) → next (cond s (cond t nodesVerdict (No 5)) (No 3)) lastVerdict ≡ cond s (cond t (next nodesVerdict lastVerdict) (No 5)) (No 3)
+      go false t = refl
+      go true true = refl
+      go true false = refl
 
   -- all answered yes
   pub record AcceptedWrite : Type 0 where
     pub count : Counted (length l)
-    pub writable : Writable (given l) i
+    pub writable : Writable (given l) i v
     pub within : place + size (length l / 6) ≤ room
     pub short : place + size (length l / 6) ≤ 65536
 
-  pub accepted-write : firstNo (writerQuestions l i room place) ≡ Yes → AcceptedWrite
+  pub accepted-write : firstNo (writerQuestions l i v room place) ≡ Yes → AcceptedWrite
   unfolding writerQuestions hasRoom
   accepted-write ok =
-      let first : List Question = (16, counted (length l)) ∷ (5, between 1 4096 i) ∷ [] in
+      let first : List Question = (16, counted (length l)) ∷ (3, versionKnown v) ∷ (5, between 1 4096 i) ∷ [] in
       let last : List Question = (17, hasRoom (length l / 6) room place) ∷ [] in
       let rs = recordsQuestions (map recordOf (given l)) 0 in
       let end = place + size (length l / 6) in
       let earlier = yes-append (first ++ rs) last ok in
       let each = yes-append first rs (earlier .0) in
       let k = counted-facts (length l) (all-yes first (each .0) 0) in
-      let b = between-true 1 4096 i (all-yes first (each .0) 1) in
+      let a = between-true 1 2 v (all-yes first (each .0) 1) in
+      let b = between-true 1 4096 i (all-yes first (each .0) 2) in
       let r = both-true (leb end room) (leb end 65536) (all-yes last (earlier .1) 0) in
       let n = given-length l in
       record {
@@ -90,6 +97,8 @@ module _ (l : List ℤ) (i room place : ℕ) where
         writable = record {
           some = rw n (k .some);
           few = rw n (k .few);
+          version-low = a .0;
+          version-high = a .1;
           iso-low = b .0;
           iso-high = b .1;
           yes-to-all = each .1;
@@ -99,18 +108,20 @@ module _ (l : List ℤ) (i room place : ℕ) where
       }
 
   -- the number of a refusal
-  pub refusal-number : {n : ℕ} → firstNo (writerQuestions l i room place) ≡ No n → WriteRefusal n
+  pub refusal-number : {n : ℕ} → firstNo (writerQuestions l i v room place) ≡ No n → WriteRefusal n
   unfolding next
-  refusal-number {n} e = go (counted (length l)) (between 1 4096 i) nodesVerdict (hasRoom (length l / 6) room place) refl (sym in-order ∙ e)
+  refusal-number {n} e =
+      go (counted (length l)) (versionKnown v) (between 1 4096 i) nodesVerdict (hasRoom (length l / 6) room place) refl (sym in-order ∙ e)
     where
-      go : (c t : Bool) (v : Verdict) (h : Bool) → nodesVerdict ≡ v → next (cond c (cond t v (No 5)) (No 16)) (cond h Yes (No 17)) ≡ No n
-          → WriteRefusal n
-      go false t v h is f = let m : 16 ≡ n = cc in inr (inl (sym m))
-      go true false v h is f = let m : 5 ≡ n = cc in inl (omega arith, omega arith)
-      go true true (No k) h is f =
+      go : (c s t : Bool) (w : Verdict) (h : Bool) → nodesVerdict ≡ w
+          → next (cond c (cond s (cond t w (No 5)) (No 3)) (No 16)) (cond h Yes (No 17)) ≡ No n → WriteRefusal n
+      go false s t w h is f = let m : 16 ≡ n = cc in inr (inr (inl (sym m)))
+      go true false t w h is f = let m : 3 ≡ n = cc in inl (sym m)
+      go true true false w h is f = let m : 5 ≡ n = cc in inr (inl (omega arith, omega arith))
+      go true true true (No k) h is f =
           let m : k ≡ n = cc in
           let rs = map recordOf (given l) in
           let r = no-numbered 6 11 (recordsQuestions rs 0) (records-numbered 6 11 (omega arith) (omega arith) rs 0) is in
-          inl (omega (arith, r .0), omega (arith, r .1))
-      go true true Yes false is f = let m : 17 ≡ n = cc in inr (inr (sym m))
-      go true true Yes true is f = no-is-not-yes (sym f)
+          inr (inl (omega (arith, r .0), omega (arith, r .1)))
+      go true true true Yes false is f = let m : 17 ≡ n = cc in inr (inr (inr (sym m)))
+      go true true true Yes true is f = no-is-not-yes (sym f)

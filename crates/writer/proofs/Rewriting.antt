@@ -6,7 +6,6 @@ use native.Mathlib.Omega.{arith}
 use mathlib.Core.Path.{_≡_, refl, sym, ap, ap₂, _∙_}
 use mathlib.Core.List.{List, [], _∷_, _++_, map, append-assoc}
 use mathlib.Core.Bool.{Bool, true, false, cond}
-use borrow.Author.Tests.{eqb-true}
 use lib.ListN.{length, drop, replicate, length-replicate, getD-replicate}
 use lib.Seq.{drop-length}
 use Rattle.record.specs.Bytes.{byte, u16, u32, i16, hasBytes, zeros}
@@ -113,12 +112,12 @@ module _ (file : List ℕ) (octets : Octets file) where
       ∙ sym (pieces file at 11 (omega arith))
 
   -- a trailer's bytes, from its numbers at a place
-  trailer-bytes : (at n i : ℕ) → at + 12 ≡ length file → u16 file at ≡ i → u16 file (at + 2) ≡ 1 → u32 file (at + 4) ≡ 12 * n + 12
-      → hasBytes file (at + 8) fileMark ≡ true → trailerBytes n i ≡ drop at file
+  trailer-bytes : (at n i v : ℕ) → at + 12 ≡ length file → u16 file at ≡ i → u16 file (at + 2) ≡ v → u32 file (at + 4) ≡ 12 * n + 12
+      → hasBytes file (at + 8) fileMark ≡ true → trailerBytes n i v ≡ drop at file
   unfolding size trailerBytes
-  trailer-bytes at n i long is v d mark =
+  trailer-bytes at n i v long is ver d mark =
       let p : u16Bytes i ≡ byte file at ∷ byte file (at + 1) ∷ [] = ap u16Bytes (sym is) ∙ u16-first file octets at in
-      let q : u16Bytes 1 ≡ piece file at 2 2 = ap u16Bytes (sym v) ∙ u16-pair file octets at 2 in
+      let q : u16Bytes v ≡ piece file at 2 2 = ap u16Bytes (sym ver) ∙ u16-pair file octets at 2 in
       let r : u32Bytes (12 * n + 12) ≡ piece file at 4 4 = ap u32Bytes (sym d) ∙ u32-four file octets at 4 in
       let s : piece file at 8 4 ≡ fileMark = has-piece file at 8 fileMark mark in
       let e : drop (at + 12) file ≡ [] = ap (λ (j : ℕ). drop j file) long ∙ drop-length file in
@@ -143,10 +142,6 @@ module _ (file : List ℕ) (octets : Octets file) where
     from-end : (k j : ℕ) → k + j ≡ 12 → length file - j ≡ start file + 12 * count file + k
     from-end k j h = omega (arith, trailer-end)
 
-    version-is : version file ≡ 1
-    unfolding trailerQuestions
-    version-is = eqb-true (version file) 1 (all-yes (trailerQuestions file) (questions .0) 2)
-
     marked-is : marked file ≡ true
     unfolding trailerQuestions
     marked-is = all-yes (trailerQuestions file) (questions .0) 1
@@ -156,29 +151,29 @@ module _ (file : List ℕ) (octets : Octets file) where
     distance-is = let t = trailer in omega (arith, t .distance-whole)
 
     -- records and trailer, whatever stands before them
-    pub rewritten-part : partBytes (nodes file) (iso file) ≡ drop (start file) file
+    pub rewritten-part : partBytes (nodes file) (iso file) (version file) ≡ drop (start file) file
     unfolding partBytes nodes iso version distance marked
     rewritten-part =
         let at = start file + 12 * count file in
         let i : u16 file at ≡ u16 file (length file - 12) = ap (u16 file) (sym (add-zero at) ∙ sym (from-end 0 12 refl)) in
-        let v : u16 file (at + 2) ≡ 1 = ap (u16 file) (sym (from-end 2 10 refl)) ∙ version-is in
+        let v : u16 file (at + 2) ≡ u16 file (length file - 10) = ap (u16 file) (sym (from-end 2 10 refl)) in
         let d : u32 file (at + 4) ≡ 12 * count file + 12 = ap (u32 file) (sym (from-end 4 8 refl)) ∙ distance-is in
         let m : hasBytes file (at + 8) fileMark ≡ true =
         ap (λ (j : ℕ). hasBytes file j fileMark) (sym (from-end 8 4 refl)) ∙ marked-is in
         ap (λ (l : List ℕ). recordsBytes (nodesFrom file (count file) (start file)) ++ l)
-        (ap (λ (n : ℕ). trailerBytes n (iso file)) (nodes-length file (count file) (start file))
-        ∙ trailer-bytes at (count file) (iso file) trailer-end i v d m)
+        (ap (λ (n : ℕ). trailerBytes n (iso file) (version file)) (nodes-length file (count file) (start file))
+        ∙ trailer-bytes at (count file) (iso file) (version file) trailer-end i v d m)
         ∙ records-bytes (count file) (start file) 0 (questions .1) (omega (arith, trailer-end))
 
     -- and for a file without leading bytes, the file
-    pub rewritten : distance file ≡ length file → partBytes (nodes file) (iso file) ≡ file
+    pub rewritten : distance file ≡ length file → partBytes (nodes file) (iso file) (version file) ≡ file
     unfolding start
     rewritten e =
         let z : length file - distance file ≡ 0 = omega arith in
         rewritten-part ∙ ap (λ (k : ℕ). drop k file) z
 
 -- what was read is accepted by the writer's questions
-pub read-writable : (file : List ℕ) → firstNo (fileQuestions file) ≡ Yes → Writable (nodes file) (iso file)
+pub read-writable : (file : List ℕ) → firstNo (fileQuestions file) ≡ Yes → Writable (nodes file) (iso file) (version file)
 unfolding fileQuestions records nodes
 read-writable file ok =
     let t = accepted-trailer file ok in
@@ -187,6 +182,8 @@ read-writable file ok =
     record {
       some = omega (arith, l, count-low t);
       few = omega (arith, l, count-high t);
+      version-low = t .version-low;
+      version-high = t .version-high;
       iso-low = t .iso-low;
       iso-high = t .iso-high;
       yes-to-all = rw (read-records file (count file) (start file) 0 q) q;

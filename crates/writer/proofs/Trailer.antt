@@ -11,24 +11,24 @@ use Rattle.part.proofs.Leading.{u16-moved, u32-moved, hasBytes-moved, back}
 use Rattle.writer.specs.Bytes.{u16Bytes, u32Bytes, size, trailerBytes}
 use Rattle.writer.proofs.Numbers.{u16-back, u32-back}
 
-pub length-trailer : (count i : ℕ) → length (trailerBytes count i) ≡ 12
+pub length-trailer : (count i v : ℕ) → length (trailerBytes count i v) ≡ 12
 unfolding trailerBytes u16Bytes u32Bytes
-length-trailer count i = refl
+length-trailer count i v = refl
 
-module _ (body : List ℕ) (count i : ℕ) where
-  pub iso-back : i < 65536 → iso (body ++ trailerBytes count i) ≡ i
+module _ (body : List ℕ) (count i v : ℕ) where
+  pub iso-back : i < 65536 → iso (body ++ trailerBytes count i v) ≡ i
   unfolding iso u16 trailerBytes u16Bytes u32Bytes
-  iso-back h = rw (back body (trailerBytes count i) 12 (omega arith)) (u16-moved body (trailerBytes count i) 0 ∙ u16-back i h)
+  iso-back h = rw (back body (trailerBytes count i v) 12 (omega arith)) (u16-moved body (trailerBytes count i v) 0 ∙ u16-back i h)
 
-  pub version-back : version (body ++ trailerBytes count i) ≡ 1
+  pub version-back : v < 65536 → version (body ++ trailerBytes count i v) ≡ v
   unfolding version u16 trailerBytes u16Bytes u32Bytes
-  version-back = rw (back body (trailerBytes count i) 10 (omega arith)) (u16-moved body (trailerBytes count i) 2)
+  version-back h = rw (back body (trailerBytes count i v) 10 (omega arith)) (u16-moved body (trailerBytes count i v) 2 ∙ u16-back v h)
 
-  pub distance-back : count ≤ 511 → distance (body ++ trailerBytes count i) ≡ size count
+  pub distance-back : count ≤ 511 → distance (body ++ trailerBytes count i v) ≡ size count
   unfolding distance u32 u16 size trailerBytes u16Bytes u32Bytes
   distance-back h =
-      rw (back body (trailerBytes count i) 8 (omega arith)) (u32-moved body (trailerBytes count i) 4 ∙ u32-back (12 * count + 12) (omega arith))
+      rw (back body (trailerBytes count i v) 8 (omega arith)) (u32-moved body (trailerBytes count i v) 4 ∙ u32-back (12 * count + 12) (omega arith))
 
-  pub marked-back : marked (body ++ trailerBytes count i) ≡ true
+  pub marked-back : marked (body ++ trailerBytes count i v) ≡ true
   unfolding marked hasBytes trailerBytes u16Bytes u32Bytes
-  marked-back = rw (back body (trailerBytes count i) 4 (omega arith)) (hasBytes-moved body (trailerBytes count i) 8 fileMark)
+  marked-back = rw (back body (trailerBytes count i v) 4 (omega arith)) (hasBytes-moved body (trailerBytes count i v) 8 fileMark)

@@ -1,5 +1,5 @@
--- The bytes of a part file, from its nodes and its iso-value (document 01, "The part file"): what record's Bytes and Record and part's File read, the
--- other way round.
+-- The bytes of a part file, from its nodes, its iso-value and its version (document 01, "The part file"; document 02, P9): what record's Bytes and
+-- Record and part's File read, the other way round.
 use Prim.Native.Nat.{ℕ, suc, _+_, _-_, _*_, _/_, _%_, _<_}
 use mathlib.Core.List.{List, [], _∷_, _++_}
 use lib.ListN.{length}
@@ -52,10 +52,10 @@ recordsBytes (n ∷ later) = recordBytes n ++ recordsBytes later
 unfoldable pub size : ℕ → ℕ
 size count = 12 * count + 12
 
--- the trailer after so many records: iso-value, version 1, distance and mark
-unfoldable pub trailerBytes : ℕ → ℕ → List ℕ
-trailerBytes count iso = u16Bytes iso ++ u16Bytes 1 ++ u32Bytes (size count) ++ fileMark
+-- the trailer after so many records: iso-value, version, distance and mark
+unfoldable pub trailerBytes : ℕ → ℕ → ℕ → List ℕ
+trailerBytes count iso version = u16Bytes iso ++ u16Bytes version ++ u32Bytes (size count) ++ fileMark
 
 -- records and trailer
-unfoldable pub partBytes : List Node → ℕ → List ℕ
-partBytes nodes iso = recordsBytes nodes ++ trailerBytes (length nodes) iso
+unfoldable pub partBytes : List Node → ℕ → ℕ → List ℕ
+partBytes nodes iso version = recordsBytes nodes ++ trailerBytes (length nodes) iso version

@@ -1,4 +1,4 @@
--- The writer (document 02, P2): its questions, its answer, what it leaves in the buffer, and what it promises of both.
+-- The writer (document 02, P2 and P9): its questions, its answer, what it leaves in the buffer, and what it promises of both.
 use Prim.Native.Nat.{ℕ, _+_, _/_, _%_, _≤_}
 use mathlib.Core.Path.{_≡_}
 use mathlib.Core.Logic.{_⊎_}
@@ -11,7 +11,7 @@ use Rattle.exact.specs.Range.{between}
 use Rattle.record.specs.Questions.{Question, firstNo}
 use Rattle.record.specs.declared.Verdict.{Verdict}
 use Rattle.record.specs.declared.Verdict.the-variants.{Yes, No}
-use Rattle.part.specs.File.{iso, start, nodes, recordsQuestions, summary, checkFile}
+use Rattle.part.specs.File.{iso, version, versionKnown, start, nodes, recordsQuestions, summary, checkFile}
 use Rattle.part.specs.declared.Checked.the-variants.{Accepted}
 use Rattle.nodes.specs.Numbers.{numbers}
 use Rattle.writer.specs.Bytes.{Octets, size, partBytes}
@@ -29,10 +29,11 @@ counted n = between 6 3066 n && eqb (n % 6) 0
 unfoldable pub hasRoom : ℕ → ℕ → ℕ → Bool
 hasRoom count room place = leb (place + size count) room && leb (place + size count) 65536
 
--- 16; 5; 6 to 10 about each node in order, and 11; 17. `i` is the iso-value, `room` the buffer's length.
-unfoldable pub writerQuestions : List ℤ → ℕ → ℕ → ℕ → List Question
-writerQuestions l i room place =
-    ((16, counted (length l)) ∷ (5, between 1 4096 i) ∷ [])
+-- 16; 3, which "the writer asks […] before 5" (P9); 5; 6 to 10 about each node in order, and 11; 17. `i` is the iso-value, `v` the version and `room`
+-- the buffer's length.
+unfoldable pub writerQuestions : List ℤ → ℕ → ℕ → ℕ → ℕ → List Question
+writerQuestions l i v room place =
+    ((16, counted (length l)) ∷ (3, versionKnown v) ∷ (5, between 1 4096 i) ∷ [])
     ++ recordsQuestions (map recordOf (given l)) 0
     ++ ((17, hasRoom (length l / 6) room place) ∷ [])
 
@@ -44,48 +45,49 @@ answerBy Yes l place = End (place + size (length l / 6))
 answerBy (No number) l place = Refused number
 
 -- records and trailer from the place on, between what stood before and after; of a refused call, as it was
-unfoldable pub bufferBy : Verdict → List ℤ → ℕ → List ℕ → ℕ → List ℕ
-bufferBy Yes l i buffer place = take place buffer ++ partBytes (given l) i ++ drop (place + size (length l / 6)) buffer
-bufferBy (No number) l i buffer place = buffer
+unfoldable pub bufferBy : Verdict → List ℤ → ℕ → ℕ → List ℕ → ℕ → List ℕ
+bufferBy Yes l i v buffer place = take place buffer ++ partBytes (given l) i v ++ drop (place + size (length l / 6)) buffer
+bufferBy (No number) l i v buffer place = buffer
 
-unfoldable pub writeAnswer : List ℤ → ℕ → ℕ → ℕ → Written
-writeAnswer l i room place = answerBy (firstNo (writerQuestions l i room place)) l place
+unfoldable pub writeAnswer : List ℤ → ℕ → ℕ → ℕ → ℕ → Written
+writeAnswer l i v room place = answerBy (firstNo (writerQuestions l i v room place)) l place
 
-unfoldable pub bufferLeft : List ℤ → ℕ → List ℕ → ℕ → List ℕ
-bufferLeft l i buffer place = bufferBy (firstNo (writerQuestions l i (length buffer) place)) l i buffer place
+unfoldable pub bufferLeft : List ℤ → ℕ → ℕ → List ℕ → ℕ → List ℕ
+bufferLeft l i v buffer place = bufferBy (firstNo (writerQuestions l i v (length buffer) place)) l i v buffer place
 
 -- ---- what is promised of them
 
--- "What the reader makes of the bytes from the buffer's start to the trailer's end is exactly what was given, the iso-value included"; "Bytes
--- outside the written part keep their contents."
-pub record WrittenPart (l : List ℤ) (i : ℕ) (before : List ℕ) (place end : ℕ) (after : List ℕ) : Type 0 where
-  pub checked : checkFile (take end after) ≡ Accepted (record { nodes = length l / 6; iso = i })
+-- "What the reader makes of the bytes from the buffer's start to the trailer's end is exactly what was given, the iso-value included"; with P9
+-- the version too. "Bytes outside the written part keep their contents."
+pub record WrittenPart (l : List ℤ) (i v : ℕ) (before : List ℕ) (place end : ℕ) (after : List ℕ) : Type 0 where
+  pub checked : checkFile (take end after) ≡ Accepted (record { nodes = length l / 6; iso = i; version = v })
   pub read : numbers (nodes (take end after)) ≡ l
   pub before-kept : take place after ≡ take place before
   pub after-kept : drop end after ≡ drop end before
   pub within : end ≤ length before
   pub short : end ≤ 65536
 
--- 5 to 11, 16 or 17
+-- 3, 5 to 11, 16 or 17
 abbrev pub WriteRefusal : ℕ → Type 0
-WriteRefusal number = ((5 ≤ number) × (number ≤ 11)) ⊎ (number ≡ 16) ⊎ (number ≡ 17)
+WriteRefusal number = (number ≡ 3) ⊎ ((5 ≤ number) × (number ≤ 11)) ⊎ (number ≡ 16) ⊎ (number ≡ 17)
 
 -- what each case of an answer says
-unfoldable pub WriteSays : List ℤ → ℕ → List ℕ → ℕ → Written → List ℕ → Type 0
-WriteSays l i before place (Refused number) after =
-    (firstNo (writerQuestions l i (length before) place) ≡ No number) × WriteRefusal number × (after ≡ before)
-WriteSays l i before place (End end) after = WrittenPart l i before place end after
+unfoldable pub WriteSays : List ℤ → ℕ → ℕ → List ℕ → ℕ → Written → List ℕ → Type 0
+WriteSays l i v before place (Refused number) after =
+    (firstNo (writerQuestions l i v (length before) place) ≡ No number) × WriteRefusal number × (after ≡ before)
+WriteSays l i v before place (End end) after = WrittenPart l i v before place end after
 
--- numbers and an iso-value that were read from an accepted file without leading bytes, and a buffer that is no shorter
-pub record ReadFrom (file : List ℕ) (l : List ℤ) (i : ℕ) (room : ℕ) : Type 0 where
+-- numbers, an iso-value and a version that were read from an accepted file without leading bytes, and a buffer that is no shorter
+pub record ReadFrom (file : List ℕ) (l : List ℤ) (i v : ℕ) (room : ℕ) : Type 0 where
   pub octets : Octets file
   pub accepted : checkFile file ≡ Accepted (summary file)
   pub no-leading : start file ≡ 0
   pub numbers-read : l ≡ numbers (nodes file)
   pub iso-read : i ≡ iso file
+  pub version-read : v ≡ version file
   pub room-enough : length file ≤ room
 
 -- "for a file without leading bytes, writing what was read at place 0 returns that file"
-unfoldable pub Returned : List ℤ → ℕ → List ℕ → ℕ → Written → List ℕ → Type 0
-Returned l i before place answer after =
-    (file : List ℕ) → ReadFrom file l i (length before) → place ≡ 0 → (answer ≡ End (length file)) × (after ≡ file ++ drop (length file) before)
+unfoldable pub Returned : List ℤ → ℕ → ℕ → List ℕ → ℕ → Written → List ℕ → Type 0
+Returned l i v before place answer after =
+    (file : List ℕ) → ReadFrom file l i v (length before) → place ≡ 0 → (answer ≡ End (length file)) × (after ≡ file ++ drop (length file) before)

@@ -1,7 +1,8 @@
-// The part file written: records and trailer from six numbers a node and an iso-value (document 02, P2).
+// The part file written: records and trailer from six numbers a node, an iso-value and a version (document 02, P2 and P9).
 
 use exact::both;
 use exact::is_between;
+use part::is_known_version;
 use record::Node;
 use record::Record;
 use record::Verdict;
@@ -116,9 +117,9 @@ fn ask_after(earlier: Verdict, number: u32, yes: bool) -> Verdict
     }
 }
 
-// All questions: 16, 5, those about the nodes, 17.
-fn writer_questions(numbers: &[i32], iso: u32, room: usize, place: usize) -> Verdict
-    ensures { λ r. ⌜ r ≡ firstNo (writerQuestions (now (numbers .entry)) iso room place) ⌝ }
+// All questions: 16, 3, 5, those about the nodes, 17.
+fn writer_questions(numbers: &[i32], iso: u32, version: u32, room: usize, place: usize) -> Verdict
+    ensures { λ r. ⌜ r ≡ firstNo (writerQuestions (now (numbers .entry)) iso version room place) ⌝ }
 {
     let n = numbers.len();
     if !both(is_between(6, 3066, n), n % 6 == 0) {
@@ -126,7 +127,8 @@ fn writer_questions(numbers: &[i32], iso: u32, room: usize, place: usize) -> Ver
     }
     let nodes = nodes_questions(numbers, n / 6);
     let all = ask_after(nodes, 17, has_room(n / 6, room, place));
-    ask(5, is_between(1, 4096, iso as usize), all)
+    let known = is_known_version(version as usize);
+    ask(3, known, ask(5, is_between(1, 4096, iso as usize), all))
 }
 
 // ---- bytes
@@ -198,15 +200,15 @@ fn put_records(numbers: &[i32], n: usize, out: &mut [u8], place: usize)
 }
 
 // The trailer after so many records.
-fn put_trailer(count: usize, iso: usize, out: &mut [u8], to: usize)
+fn put_trailer(count: usize, iso: usize, version: usize, out: &mut [u8], to: usize)
     requires { ⌜ count ≤ 511 ⌝ }
     requires { ⌜ to + 12 ≤ length (now out) ⌝ }
-    ensures { λ _. ⌜ now (out .exit) ≡ sets (now (out .entry)) to (trailerBytes count iso) ⌝ }
+    ensures { λ _. ⌜ now (out .exit) ≡ sets (now (out .entry)) to (trailerBytes count iso version) ⌝ }
 {
     let distance = 12 * count + 12;
     put_words(
         iso,
-        1,
+        version,
         distance % 65536,
         distance / 65536,
         0x5254,
@@ -219,18 +221,18 @@ fn put_trailer(count: usize, iso: usize, out: &mut [u8], to: usize)
 // ---- the call
 
 // Records and trailer from the place on; a refused call changes no byte.
-pub fn write(numbers: &[i32], iso: u32, buffer: &mut [u8], place: usize) -> Written
-    ensures answer { λ r. ⌜ r ≡ writeAnswer (now (numbers .entry)) iso (length (now (buffer .entry))) place ⌝ }
-    ensures bytes { λ _. ⌜ now (buffer .exit) ≡ bufferLeft (now (numbers .entry)) iso (now (buffer .entry)) place ⌝ }
-    ensures says { λ r. ⌜ WriteSays (now (numbers .entry)) iso (now (buffer .entry)) place r (now (buffer .exit)) ⌝ }
-    ensures returned { λ r. ⌜ Returned (now (numbers .entry)) iso (now (buffer .entry)) place r (now (buffer .exit)) ⌝ }
+pub fn write(numbers: &[i32], iso: u32, version: u32, buffer: &mut [u8], place: usize) -> Written
+    ensures answer { λ r. ⌜ r ≡ writeAnswer (now (numbers .entry)) iso version (length (now (buffer .entry))) place ⌝ }
+    ensures bytes { λ _. ⌜ now (buffer .exit) ≡ bufferLeft (now (numbers .entry)) iso version (now (buffer .entry)) place ⌝ }
+    ensures says { λ r. ⌜ WriteSays (now (numbers .entry)) iso version (now (buffer .entry)) place r (now (buffer .exit)) ⌝ }
+    ensures returned { λ r. ⌜ Returned (now (numbers .entry)) iso version (now (buffer .entry)) place r (now (buffer .exit)) ⌝ }
 {
-    if let Verdict::No(number) = writer_questions(numbers, iso, buffer.len(), place) {
+    if let Verdict::No(number) = writer_questions(numbers, iso, version, buffer.len(), place) {
         return Written::Refused(number);
     }
     let count = numbers.len() / 6;
     put_records(numbers, count, buffer, place);
     let after = place + 12 * count;
-    put_trailer(count, iso as usize, buffer, after);
+    put_trailer(count, iso as usize, version as usize, buffer, after);
     Written::End(after + 12)
 }

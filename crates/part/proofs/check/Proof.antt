@@ -23,9 +23,11 @@ check-spec =
     (λ c. search needs)
     (λ c κs. trailer c)
     (λ c κs. omega (arith, trailer (c .before)))
+    (λ c κs. omega (arith, trailer (c .before .before)))
     (λ c.
-    let t = c .before .before in
-    let n = c .before .count-of .ensures in
-    let i = c .iso-of .ensures in
+    let t = c .before .before .before in
+    let n = c .before .before .count-of .ensures in
+    let i = c .before .iso-of .ensures in
+    let v = c .version-of .ensures in
     let yes-to-all = sym (t .before .before .file-questions .ensures) ∙ t .enum-told .given .1 in
-    (rw (yes-to-all, n, i), (yes-to-all, n, i))))
+    (rw (yes-to-all, n, i, v), (yes-to-all, n, i, v))))

@@ -18,7 +18,7 @@ unfolding trailerQuestions firstNo
 returns-2 c =
     let c4 = c .before .before .before .before in
     let c8 = c4 .before .before .before .before in
-    let c12 = c8 .before .before .before .before in
+    let c12 = c8 .before .before .before .before .before in
     rw (
       ← c12 .before .is-between .ensures,
       not-false (c12 .before .is-between .result) (c12 .if1 .left),
@@ -32,8 +32,9 @@ returns-2 c =
       c4 .before .before .before .both .ensures,
       c8 .is-between2 .ensures,
       c8 .before .distance-of .ensures,
-      c8 .before .before .version-of .ensures,
-      c8 .before .before .before .is-marked .ensures,
+      c8 .before .before .is-known-version .ensures,
+      c8 .before .before .before .version-of .ensures,
+      c8 .before .before .before .before .is-marked .ensures,
     )
 
 pub trailer-questions-spec : {M : Type 1} → statement M
@@ -45,13 +46,14 @@ trailer-questions-spec =
     (λ c. rw (← c .before .is-between .ensures, not-true (c .before .is-between .result) (c .if1 .taken)))
     (λ c κs. omega (arith, long c))
     (λ c κs. omega (arith, long (c .before)))
-    (λ c κs. omega (arith, long (c .before .before)))
+    (λ c κs. search needs)
+    (λ c κs. omega (arith, long (c .before .before .before)))
     (λ c κs. search needs)
     (λ c κs. search needs)
     (λ c κs. search needs)
     (λ c κs.
     let atDistance = c .before .before .before in
-    omega (arith, long (atDistance .before .before .before)))
+    omega (arith, long (atDistance .before .before .before .before)))
     (λ c κs. search needs)
     (λ c κs. search needs)
     (λ c κs. search needs)

@@ -1,4 +1,4 @@
--- `span_bounds`: out of reach, both q are 0 and so are the bounds; else they are at most 65536, so their squares are at most 2³², as `weigh` asks.
+-- `span_bounds`: out of reach, both q are 0 and so are the bounds, of either kernel; else they are at most 65536, as `weigh_sizes` asks.
 use mathlib.Core.Path.{_≡_, sym, ap, ap₂, subst, _∙_}
 use mathlib.Core.Bool.{cond}
 use Prim.Native.Nat.{ℕ, _*_, _≤_}
@@ -6,17 +6,18 @@ use native.Mathlib.Nat.{le-trans, le-of-eq}
 use lib.IntN.{ℤ, pos, natAbs}
 use lib.Signed.{_≤ℤ_}
 use mir.Syntax.{w64}
-use mir.Val.{Fits}
 use mir.Facts.{toZ-ofZ}
 use borrow.Author.Needs.{needs}
 use borrow.Author.Tests.{not-true}
 use Rattle.exact.proofs.Tests.{positive-small}
 use Rattle.exact.proofs.Machine.{param, fits-u, sized}
+use Rattle.field.specs.Kernel.{Kernel}
 use Rattle.field.specs.Solid.{kernelOf}
 use Rattle.field.specs.declared.Bounds.{Bounds}
 use Rattle.field.specs.Bounds.{distanceAt, footInside, lowQ, highQ, scaledSquare, qlo, qhi, weighted, pointBounds}
 use Rattle.field.proofs.Quotients.{square-le, ticks-square, qlo-le, qhi-le}
 use Rattle.field.proofs.Far.{weighted-none}
+use Rattle.field.proofs.Solids.{kernel-lawful}
 use Rattle.points.proofs.Peaks.{peak-small, far-by, least-by, greatest-by}
 use Rattle.points.proofs.span_bounds.Statement.{statement}
 use Rattle.points.proofs.span_bounds.Tie as tie
@@ -80,14 +81,12 @@ both-le c =
       le-trans (le-of-eq (high c)) (qhi-le _ _ _ (positive-small (r .square-low) (r .square-high) .0) (h .1 .ticks-low)),
     )
 
-weigh-is : {r : Bounds} {w w′ : ℤ} {x x′ y y′ : ℕ} → r ≡ weighted w (x * x) (y * y) → w ≡ w′ → x ≡ x′ → y ≡ y′ → r ≡ weighted w′ (x′ * x′) (y′ * y′)
-weigh-is e w x y = rw (w, x, y) at e
-
-square-fits : {q : ℕ} → q ≤ 65536 → Fits w64 (q * q)
-square-fits h = fits-u (square-le h) tt
+weigh-is : (k : Kernel) {r : Bounds} {w w′ : ℤ} {x x′ y y′ : ℕ} → r ≡ weighted w (k .low x) (k .high y) → w ≡ w′ → x ≡ x′ → y ≡ y′
+    → r ≡ weighted w′ (k .low x′) (k .high y′)
+weigh-is k e w x y = rw (w, x, y) at e
 
 pub span-bounds-spec : {M : Type 1} → statement M
-unfolding kernelOf pointBounds
+unfolding pointBounds
 span-bounds-spec =
     tie.close
     (tie.spec
@@ -100,7 +99,11 @@ span-bounds-spec =
     (λ c κs. search needs)
     (λ c κs. search needs)
     (λ c κs. search needs)
-    (λ c. let q = far c in rw (q .0, q .1) (sym (weighted-none (start (c .before) .args .p .point .weight))))
+    (λ c.
+    let q = far c in
+    let a = start (c .before) .args in
+    let z = kernel-lawful (a .part) .none in
+    rw (q .0, q .1, z .0, z .1) (sym (weighted-none (a .p .point .weight))))
     (λ c κs. search needs)
     (λ c κs. search needs)
     (λ c κs. search needs)
@@ -110,12 +113,10 @@ span-bounds-spec =
     let q = w .before .before .before .before .scaled-square .ensures in
     let k = param {w = w64} (h .1) tt in
     ((subst (λ (z : ℤ). pos 0 ≤ℤ z) (sym (k .is)) (h .0), sized k), (q .1, q .2)))
-    (λ c. square-fits (both-le c .0))
-    (λ c. square-fits (both-le c .1))
     (λ c κs.
     let g = c .before in
     let q = both-le g in
-    (sized (param (start (tests g) .pre .0 .ranges .weight-small) tt), square-le (q .0), square-le (q .1)))
+    (sized (param (start (tests g) .pre .0 .ranges .weight-small) tt), q .0, q .1))
     (λ c.
     let g = c .before .before in
-    weigh-is (c .weigh .ensures) (param {w = w64} (start (tests g) .pre .0 .ranges .weight-small) tt .is) (low g) (high g)))
+    weigh-is (kernelOf (start (tests g) .args .part)) (c .weigh-sizes .ensures) (param {w = w64} (start (tests g) .pre .0 .ranges .weight-small) tt .is) (low g) (high g)))

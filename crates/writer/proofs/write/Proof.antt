@@ -22,14 +22,14 @@ use Rattle.writer.proofs.write.Tie as tie
 -- all questions are answered yes
 yes-to-all : (c : tie.After-enum-told)
     → (let a = c .before .before .before .before .args in
-    firstNo (writerQuestions (a .numbers .now) (a .iso) (length (a .buffer .now)) (a .place)) ≡ Yes)
+    firstNo (writerQuestions (a .numbers .now) (a .iso) (a .version) (length (a .buffer .now)) (a .place)) ≡ Yes)
 yes-to-all c = sym (c .before .before .writer-questions .ensures) ∙ c .enum-told .given .1
 
 facts : (c : tie.After-enum-told)
-    → (let a = c .before .before .before .before .args in AcceptedWrite (a .numbers .now) (a .iso) (length (a .buffer .now)) (a .place))
+    → (let a = c .before .before .before .before .args in AcceptedWrite (a .numbers .now) (a .iso) (a .version) (length (a .buffer .now)) (a .place))
 facts c =
     let a = c .before .before .before .before .args in
-    accepted-write (a .numbers .now) (a .iso) (length (a .buffer .now)) (a .place) (yes-to-all c)
+    accepted-write (a .numbers .now) (a .iso) (a .version) (length (a .buffer .now)) (a .place) (yes-to-all c)
 
 -- where the trailer ends
 end : (c : tie.After-enum-told)
@@ -42,8 +42,8 @@ returns : tie.Need-returns
 returns c =
     let q = c .before .before .before in
     let a = q .before .before .args in
-    let e = refused (a .numbers .now) (a .iso) (a .buffer .now) (a .place) (sym (q .writer-questions .ensures) ∙ c .before .number .given .1) in
-    promised (a .numbers .now) (a .iso) (a .buffer .now) (a .place) (sym (e .0)) (sym (e .1))
+    let e = refused (a .numbers .now) (a .iso) (a .version) (a .buffer .now) (a .place) (sym (q .writer-questions .ensures) ∙ c .before .number .given .1) in
+    promised (a .numbers .now) (a .iso) (a .version) (a .buffer .now) (a .place) (sym (e .0)) (sym (e .1))
 
 put-records-requires : tie.Need-put-records-requires
 unfolding given
@@ -70,10 +70,10 @@ returns-2 c =
     let l = a .numbers .now in
     let p = c .before .before .before .before .before .before .put-records in
     let y = yes-to-all t in
-    promised l (a .iso) (a .buffer .now) (a .place) (sym (stored-end l (a .iso) (a .buffer .now) (a .place) y))
+    promised l (a .iso) (a .version) (a .buffer .now) (a .place) (sym (stored-end l (a .iso) (a .version) (a .buffer .now) (a .place) y))
     (c .before .before .put-trailer .ensures
-    ∙ ap (λ (o : List ℕ). sets o (a .place + 12 * (length l / 6)) (trailerBytes (length l / 6) (a .iso))) (p .ensures)
-    ∙ stored l (a .iso) (a .buffer .now) (a .place) y)
+    ∙ ap (λ (o : List ℕ). sets o (a .place + 12 * (length l / 6)) (trailerBytes (length l / 6) (a .iso) (a .version))) (p .ensures)
+    ∙ stored l (a .iso) (a .version) (a .buffer .now) (a .place) y)
 
 pub write-spec : {M : Type 1} → statement M
 write-spec =
