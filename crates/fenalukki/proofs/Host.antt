@@ -121,14 +121,14 @@ module _ (file : List ℕ) where
         left-is viewTally totals (ap (viewOf (2 ^ exponent)) (answer ∙ ap (λ (ray : ViewRay). viewerTicks exponent file ray budget) same))
         (t ∙ sym (view-tally (2 ^ exponent) f)) is
 
-pub host-write : (l : List ℤ) (iso : ℕ) (lent : List ℕ) (place : ℕ) (a : Written) {number : ℕ} {after : List ℕ}
-    → (a ≡ writeAnswer l iso (length lent) place)
-    × ((after ≡ bufferLeft l iso lent place) × (WriteSays l iso lent place a after × Returned l iso lent place a after))
-    → number ≡ writeNumber a → HostWrite l iso lent place number after
-host-write l iso lent place a {number} {after} (answer, (bytes, (says, returned))) is = record {
+pub host-write : (l : List ℤ) (iso version : ℕ) (lent : List ℕ) (place : ℕ) (a : Written) {number : ℕ} {after : List ℕ}
+    → (a ≡ writeAnswer l iso version (length lent) place)
+    × ((after ≡ bufferLeft l iso version lent place) × (WriteSays l iso version lent place a after × Returned l iso version lent place a after))
+    → number ≡ writeNumber a → HostWrite l iso version lent place number after
+host-write l iso version lent place a {number} {after} (answer, (bytes, (says, returned))) is = record {
   number-is = is ∙ ap writeNumber answer;
   bytes = bytes;
-  told = rw is (write-told l iso lent place after a says);
+  told = rw is (write-told l iso version lent place after a says);
   says = rw (← answer) says;
   returned = rw (← answer) returned;
 }

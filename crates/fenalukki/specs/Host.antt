@@ -1,4 +1,4 @@
--- What a host in C gets from each call (document 01, "Calls"; document 02, P2, P4 and P5): its number, what was lent afterwards, and all that the
+-- What a host in C gets from each call (document 01, "Calls"; document 02, P2, P4, P5 and P9): its number, what was lent afterwards, and all that the
 -- call promises of the answer that the number stands for, demands 2 and 3 included.
 use mathlib.Core.Path.{_≡_}
 use mathlib.Core.List.{List}
@@ -74,12 +74,12 @@ pub record HostRead (file : List ℕ) (lent : List ℤ) (number : ℕ) (after : 
   pub says : Says file (checkFile file)
 
 -- a write's number, and the bytes afterwards in the buffer that was lent
-pub record HostWrite (numbers : List ℤ) (iso : ℕ) (lent : List ℕ) (place number : ℕ) (after : List ℕ) : Type 0 where
-  pub number-is : number ≡ writeNumber (writeAnswer numbers iso (length lent) place)
-  pub bytes : after ≡ bufferLeft numbers iso lent place
+pub record HostWrite (numbers : List ℤ) (iso version : ℕ) (lent : List ℕ) (place number : ℕ) (after : List ℕ) : Type 0 where
+  pub number-is : number ≡ writeNumber (writeAnswer numbers iso version (length lent) place)
+  pub bytes : after ≡ bufferLeft numbers iso version lent place
   pub told : Told 17 number
-  pub says : WriteSays numbers iso lent place (writeAnswer numbers iso (length lent) place) after
-  pub returned : Returned numbers iso lent place (writeAnswer numbers iso (length lent) place) after
+  pub says : WriteSays numbers iso version lent place (writeAnswer numbers iso version (length lent) place) after
+  pub returned : Returned numbers iso version lent place (writeAnswer numbers iso version (length lent) place) after
 
 -- a saved record's number, and the totals afterwards that were lent
 pub record HostRestore (saved lent : List ℕ) (number : ℕ) (after : List ℕ) : Type 0 where

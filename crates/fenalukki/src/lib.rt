@@ -90,7 +90,7 @@ pub extern "C" fn fenalukki_column(
 
 // ---- beside these
 
-// The check of a file: its node count and iso-value.
+// The check of a file: its version, node count and iso-value.
 #[no_mangle]
 pub extern "C" fn fenalukki_check(file: &[u8]) -> u64
     ensures { λ r. ⌜ HostCheck (now (file .entry)) r ⌝ }
@@ -159,10 +159,10 @@ pub extern "C" fn fenalukki_read(file: &[u8], numbers: &mut [i32; 3066]) -> u64
 
 // Records and trailer of a part file, from a place of the buffer on.
 #[no_mangle]
-pub extern "C" fn fenalukki_write(numbers: &[i32], iso: u32, buffer: &mut [u8], place: usize) -> u32
-    ensures { λ r. ⌜ HostWrite (now (numbers .entry)) iso (now (buffer .entry)) place r (now (buffer .exit)) ⌝ }
+pub extern "C" fn fenalukki_write(numbers: &[i32], iso: u32, version: u32, buffer: &mut [u8], place: usize) -> u32
+    ensures { λ r. ⌜ HostWrite (now (numbers .entry)) iso version (now (buffer .entry)) place r (now (buffer .exit)) ⌝ }
 {
-    write_number(write(numbers, iso, buffer, place))
+    write_number(write(numbers, iso, version, buffer, place))
 }
 
 // ---- the casting calls, lent the running totals

@@ -93,13 +93,13 @@ module _ (file : List ℕ) where
   pub check-number-fits : (a : Checked) → Says file a → checkNumber a < 2 ^ 64
   unfolding checkNumber Says
   check-number-fits (part.Refused n) e = omega (arith, no-numbered 1 11 (fileQuestions file) (file-numbered 11 (omega arith) file) e .1)
-  check-number-fits (part.Accepted s) (ok, nodes, iso) =
-      let t = accepted-trailer file ok in omega (arith, nodes, iso, count-high t, t .iso-high)
+  check-number-fits (part.Accepted s) (ok, nodes, iso, version) =
+      let t = accepted-trailer file ok in omega (arith, nodes, iso, version, count-high t, t .iso-high, t .version-high)
 
   pub check-told : (a : Checked) → Says file a → Told 11 (checkNumber a)
   unfolding checkNumber Says
   check-told (part.Refused n) e = inl (no-numbered 1 11 (fileQuestions file) (file-numbered 11 (omega arith) file) e)
-  check-told (part.Accepted s) says = inr (omega arith)
+  check-told (part.Accepted s) (ok, nodes, iso, version) = inr (omega (arith, version, accepted-trailer file ok .version-low))
 
   pub bounds-told : (p : Position) (a : BoundsAnswer) → PlaceSays file p a → Told 12 (boundsNumber a)
   unfolding boundsNumber PlaceSays placeQuestions
@@ -127,17 +127,18 @@ module _ (file : List ℕ) where
 -- ---- a write
 
 few : {n : ℕ} → WriteRefusal n → (1 ≤ n) × (n ≤ 17)
-few (inl (low, high)) = (omega (arith, low), omega (arith, high))
-few (inr (inl e)) = (omega arith, omega arith)
-few (inr (inr e)) = (omega arith, omega arith)
+few (inl e) = (omega arith, omega arith)
+few (inr (inl (low, high))) = (omega (arith, low), omega (arith, high))
+few (inr (inr (inl e))) = (omega arith, omega arith)
+few (inr (inr (inr e))) = (omega arith, omega arith)
 
-module _ (l : List ℤ) (iso : ℕ) (before : List ℕ) (place : ℕ) (after : List ℕ) where
-  pub write-number-fits : (a : Written) → WriteSays l iso before place a after → writeNumber a < 2 ^ 32
+module _ (l : List ℤ) (iso version : ℕ) (before : List ℕ) (place : ℕ) (after : List ℕ) where
+  pub write-number-fits : (a : Written) → WriteSays l iso version before place a after → writeNumber a < 2 ^ 32
   unfolding writeNumber WriteSays
   write-number-fits (writer.Refused n) (e, refusal, same) = omega (arith, few refusal .1)
   write-number-fits (writer.End e) part = omega (arith, part .short)
 
-  pub write-told : (a : Written) → WriteSays l iso before place a after → Told 17 (writeNumber a)
+  pub write-told : (a : Written) → WriteSays l iso version before place a after → Told 17 (writeNumber a)
   unfolding writeNumber WriteSays
   write-told (writer.Refused n) (e, refusal, same) = inl (few refusal)
   write-told (writer.End e) part = inr (omega arith)

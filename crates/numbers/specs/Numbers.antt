@@ -45,10 +45,10 @@ viewRayOf ax ay az bx by bz = record { start = endOf ax ay az; end = endOf bx by
 abbrev pub Told : ℕ → ℕ → Type 0
 Told most number = ((1 ≤ number) × (number ≤ most)) ⊎ (65536 ≤ number)
 
--- the check of a file: the refusal number, or 2³² + node count × 65,536 + iso-value
+-- the check of a file: the refusal number, or version × 2³² + node count × 65,536 + iso-value
 unfoldable pub checkNumber : Checked → ℕ
 checkNumber (part.Refused number) = number
-checkNumber (part.Accepted summary) = 2 ^ 32 + summary .nodes * 65536 + summary .iso
+checkNumber (part.Accepted summary) = summary .version * 2 ^ 32 + summary .nodes * 65536 + summary .iso
 
 -- the bounds at a place: the refusal number, or 65,536; and the lent pair afterwards, low and high
 unfoldable pub boundsNumber : BoundsAnswer → ℕ

@@ -22,7 +22,7 @@ ghost use Rattle.cast.specs.Column.{columnNumber};
 ghost use Rattle.numbers.specs.Numbers.{placeAt, rayOf, endOf, viewRayOf, checkNumber, boundsNumber, boundsLeft, writeNumber};
 ghost use Rattle.numbers.specs.Numbers.{totalsIn, totalsOut, lentAfter, savedNumber, savedLeft};
 
-// What k counts in a number, and what a tick or the node count does: 2³² and 65,536.
+// What k or the version counts in a number, and what a tick or the node count does: 2³² and 65,536.
 pub const CASE: u64 = 4294967296;
 
 pub const TICK: u64 = 65536;
@@ -105,7 +105,7 @@ pub fn check_number(answer: Checked) -> u64
 {
     match answer {
         Checked::Refused(number) => number as u64,
-        Checked::Accepted(part) => CASE + part.nodes as u64 * TICK + part.iso as u64,
+        Checked::Accepted(part) => part.version as u64 * CASE + part.nodes as u64 * TICK + part.iso as u64,
     }
 }
 

@@ -9,6 +9,6 @@ fenalukki-write-spec =
     tie.close
     (tie.spec
     (λ c κs. search needs)
-    (λ c κs. write-number-fits _ _ _ _ _ _ (c .before .before .write .ensures .1 .1 .0))
+    (λ c κs. write-number-fits _ _ _ _ _ _ _ (c .before .before .write .ensures .1 .1 .0))
     (λ c. search needs)
-    (λ c. host-write _ _ _ _ _ (c .before .before .before .write .ensures) (c .write-number .ensures)))
+    (λ c. host-write _ _ _ _ _ _ (c .before .before .before .write .ensures) (c .write-number .ensures)))

@@ -6,7 +6,7 @@ use Rattle.numbers.specs.Numbers.{checkNumber}
 use Rattle.numbers.proofs.check_number.Statement.{statement}
 use Rattle.numbers.proofs.check_number.Tie as tie
 
-fits : (c : tie.After-known-told2) → let s = c .before .answer2 .given .0 .0 in 2 ^ 32 + s .nodes * 65536 + s .iso < 2 ^ 64
+fits : (c : tie.After-known-told2) → let s = c .before .answer2 .given .0 .0 in s .version * 2 ^ 32 + s .nodes * 65536 + s .iso < 2 ^ 64
 unfolding checkNumber
 fits c = rw (c .before .answer2 .given .1) at (c .before .before .before .pre)
 
@@ -18,6 +18,7 @@ check-number-spec =
     (λ c. search needs)
     (λ c. search needs)
     (λ c. search needs)
+    (λ c. omega (arith, fits c))
     (λ c. omega (arith, fits c))
     (λ c. omega (arith, fits c))
     (λ c. omega (arith, fits c))
