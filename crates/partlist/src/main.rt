@@ -1,5 +1,5 @@
 // The part lister: reads a part file from standard input and prints what its check answers: "refused" and the number, or the
-// node count, the iso-value and each node's six numbers (kind, r, x, y, z, w) in file order.
+// node count, the iso-value, the version and each node's six numbers (kind, r, x, y, z, w) in file order.
 
 use io::read_full;
 use listing::print_number;
@@ -44,12 +44,13 @@ fn print_nodes(numbers: &[i32; NUMBERS], n: usize)
     }
 }
 
-// An accepted file's node count and iso-value, and its nodes.
+// An accepted file's node count, iso-value and version, and its nodes.
 fn print_accepted(part: Summary, numbers: &[i32; NUMBERS])
     requires { ⌜ part .nodes ≤ 511 ⌝ }
 {
     print_number(b"nodes ", part.nodes as u64, b' ');
-    print_number(b"iso ", part.iso as u64, b'\n');
+    print_number(b"iso ", part.iso as u64, b' ');
+    print_number(b"version ", part.version as u64, b'\n');
     print_nodes(numbers, part.nodes);
 }
 
