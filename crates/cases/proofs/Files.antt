@@ -1,4 +1,4 @@
--- Worked files as rows of a table that one theorem covers (document 01, "Rays and places tried"): a file, and what its check answers.
+-- Worked files as rows of a table that one theorem covers (document 01, "Rays and places tried"; document 02, P9): a file, and what its check answers.
 use Prim.Native.Nat.{ℕ, zero, suc, _<_}
 use mathlib.Core.Path.{_≡_, refl, ap, _∙_}
 use mathlib.Core.List.{List, [], _∷_, _++_, map}
@@ -52,9 +52,9 @@ copies (suc n) = recordK ++ copies n
 abbrev Row : Type 0
 Row = List ℕ × Checked
 
--- accepted, with so many nodes and this iso-value
+-- accepted, with so many nodes and this iso-value, of version 1
 abbrev accepted : ℕ → ℕ → Checked
-accepted n i = Accepted (record { nodes = n; iso = i })
+accepted n i = Accepted (record { nodes = n; iso = i; version = 1 })
 
 unfoldable pub rows : List Row
 rows =
@@ -64,9 +64,12 @@ rows =
     ∷ (recordK ++ trailerK, accepted 1 1)
     -- bytes before the first record are ignored
     ∷ (0xff ∷ 0x02 ∷ recordK ++ trailerK, accepted 1 1)
-    -- bad mark and bad version; bad version
-    ∷ (recordK ++ 0x01 ∷ 0x00 ∷ 0x02 ∷ 0x00 ∷ 0x18 ∷ 0x00 ∷ 0x00 ∷ 0x00 ∷ 0x54 ∷ 0x52 ∷ 0x45 ∷ 0x46 ∷ [], Refused 2)
-    ∷ (recordK ++ trailer 1 0 2 0x18 0, Refused 3)
+    -- bad mark and bad version; versions 0, 2, 3 and 257
+    ∷ (recordK ++ 0x01 ∷ 0x00 ∷ 0x03 ∷ 0x00 ∷ 0x18 ∷ 0x00 ∷ 0x00 ∷ 0x00 ∷ 0x54 ∷ 0x52 ∷ 0x45 ∷ 0x46 ∷ [], Refused 2)
+    ∷ (recordK ++ trailer 1 0 0 0x18 0, Refused 3)
+    ∷ (recordK ++ trailer 1 0 2 0x18 0, Accepted (record { nodes = 1; iso = 1; version = 2 }))
+    ∷ (recordK ++ trailer 1 0 3 0x18 0, Refused 3)
+    ∷ (recordK ++ 0x01 ∷ 0x00 ∷ 0x01 ∷ 0x01 ∷ 0x18 ∷ 0x00 ∷ 0x00 ∷ 0x00 ∷ 0x54 ∷ 0x52 ∷ 0x45 ∷ 0x45 ∷ [], Refused 3)
     -- the distance is 25, 12, and more than the length
     ∷ (recordK ++ trailer 1 0 1 0x19 0, Refused 4)
     ∷ (recordK ++ trailer 1 0 1 0x0c 0, Refused 4)

@@ -1,6 +1,7 @@
 pub mod Files
 pub mod Writing
 pub mod Rays
+pub mod Degree
 pub mod NoLength
 pub mod Costs
 pub mod Overlaps

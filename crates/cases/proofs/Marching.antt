@@ -137,6 +137,6 @@ farRay = record { start = at (pos 0) (pos 0); end = at (pos 1) (pos 0) }
 pub met : marchProbes (solidOf farFile) farRay exponent ≡ marchEnough (2 ^ exponent)
 unfolding
     u16 u32 i16 isPoint iso distance start count nodeAt zeroBytes recordAt recordsFrom nodesFrom nodes ceil maxℤ operatorOf itemOf items joinTop
-    step run treeValue kernelOf raySquare prepare distanceAt footInside footDistance lowQ highQ qlo qhi weighted pointBounds joinBounds
+    step run treeValue version kernelOf raySquare prepare distanceAt footInside footDistance lowQ highQ qlo qhi weighted pointBounds joinBounds
     treeBounds stateOf spanState rayState nextTick nextLength countFrom
 met = refl

@@ -185,7 +185,7 @@ view-13 file ray d = elim (d .counted) [ inl c ↦ omega (arith, c .1) | inr c �
 stay-inside : markOf K stay 1024 0 ≡ insideMark
 unfolding
     u16 u32 i16 isPoint iso distance start count nodeAt zeroBytes recordAt recordsFrom nodesFrom nodes ceil operatorOf itemOf items joinTop step run
-    treeValue kernelOf raySquare prepare distanceAt footInside footDistance lowQ highQ qlo qhi weighted pointBounds joinBounds treeBounds stateOf
+    treeValue version kernelOf raySquare prepare distanceAt footInside footDistance lowQ highQ qlo qhi weighted pointBounds joinBounds treeBounds stateOf
     spanState markOf
 stay-inside = refl
 

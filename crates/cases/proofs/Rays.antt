@@ -59,20 +59,23 @@ answer (hits file ray budget) = found (firstHit file ray budget)
 
 -- ---- files, places and rays
 
--- a file of one point at the origin, iso 1: the two bytes of r, and those of w
-abbrev pub onePoint : ℕ → ℕ → ℕ → ℕ → List ℕ
-onePoint r r′ w w′ =
+-- a file of one point at the origin, iso 1: its version, the two bytes of r, and those of w
+abbrev pub onePointOf : ℕ → ℕ → ℕ → ℕ → ℕ → List ℕ
+onePointOf v r r′ w w′ =
     1 ∷ 0 ∷ r ∷ r′ ∷ 0 ∷ 0 ∷ 0 ∷ 0 ∷ 0 ∷ 0 ∷ w ∷ w′
-    ∷ 0x01 ∷ 0x00 ∷ 0x01 ∷ 0x00 ∷ 0x18 ∷ 0x00 ∷ 0x00 ∷ 0x00 ∷ 0x54 ∷ 0x52 ∷ 0x45 ∷ 0x45 ∷ []
+    ∷ 0x01 ∷ 0x00 ∷ v ∷ 0x00 ∷ 0x18 ∷ 0x00 ∷ 0x00 ∷ 0x00 ∷ 0x54 ∷ 0x52 ∷ 0x45 ∷ 0x45 ∷ []
+
+abbrev pub onePoint : ℕ → ℕ → ℕ → ℕ → List ℕ
+onePoint r r′ w w′ = onePointOf 1 r r′ w w′
 
 abbrev pub fileK : List ℕ
 fileK = onePoint 0x00 0x02 0x04 0x00
 
--- file K with version 2 and a last byte 44
+-- file K with version 3 and a last byte 44
 abbrev badMark : List ℕ
 badMark =
     1 ∷ 0 ∷ 0 ∷ 2 ∷ 0 ∷ 0 ∷ 0 ∷ 0 ∷ 0 ∷ 0 ∷ 4 ∷ 0
-    ∷ 0x01 ∷ 0x00 ∷ 0x02 ∷ 0x00 ∷ 0x18 ∷ 0x00 ∷ 0x00 ∷ 0x00 ∷ 0x54 ∷ 0x52 ∷ 0x45 ∷ 0x44 ∷ []
+    ∷ 0x01 ∷ 0x00 ∷ 0x03 ∷ 0x00 ∷ 0x18 ∷ 0x00 ∷ 0x00 ∷ 0x00 ∷ 0x54 ∷ 0x52 ∷ 0x45 ∷ 0x44 ∷ []
 
 abbrev pub at : ℤ → ℤ → Position
 at x y = record { x = x; y = y; z = pos 0 }

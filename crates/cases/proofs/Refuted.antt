@@ -92,7 +92,7 @@ marks-are : (markOf K ray 1024 330 ≡ crossingMark) × (markOf K ray 1024 400 �
     × (markOf K ray 1024 0 ≡ emptyMark)
 unfolding
     u16 u32 i16 isPoint iso distance start count nodeAt zeroBytes recordAt recordsFrom nodesFrom nodes ceil operatorOf itemOf items joinTop step run
-    treeValue kernelOf raySquare prepare distanceAt footInside footDistance lowQ highQ qlo qhi weighted pointBounds joinBounds treeBounds stateOf
+    treeValue version kernelOf raySquare prepare distanceAt footInside footDistance lowQ highQ qlo qhi weighted pointBounds joinBounds treeBounds stateOf
     spanState markOf
 marks-are = (refl, refl, refl, refl)
 
@@ -101,7 +101,7 @@ counts-are : (rayProbes K ray exponent ≡ 39)
     × (castLookedAt 1024 (rayWalk K ray exponent 14) ≡ 330) × (castLookedAt 1024 (rayWalk K ray exponent 15) ≡ 331)
 unfolding
     u16 u32 i16 isPoint iso distance start count nodeAt zeroBytes recordAt recordsFrom nodesFrom nodes ceil operatorOf itemOf items joinTop step run
-    treeValue kernelOf raySquare prepare distanceAt footInside footDistance lowQ highQ qlo qhi weighted pointBounds joinBounds treeBounds stateOf
+    treeValue version kernelOf raySquare prepare distanceAt footInside footDistance lowQ highQ qlo qhi weighted pointBounds joinBounds treeBounds stateOf
     spanState rayState probeCount walk castLookedAt
 counts-are = (refl, refl, refl)
 
@@ -109,7 +109,7 @@ counts-are = (refl, refl, refl)
 marched-are : (marchProbes K ray exponent ≡ 49) × (getD (rayMarks K ray exponent) 600 notLookedAt ≡ insideMark)
 unfolding
     u16 u32 i16 isPoint iso distance start count nodeAt zeroBytes recordAt recordsFrom nodesFrom nodes ceil operatorOf itemOf items joinTop step run
-    treeValue kernelOf raySquare prepare distanceAt footInside footDistance lowQ highQ qlo qhi weighted pointBounds joinBounds treeBounds stateOf
+    treeValue version kernelOf raySquare prepare distanceAt footInside footDistance lowQ highQ qlo qhi weighted pointBounds joinBounds treeBounds stateOf
     spanState rayState spanMarks nextTick nextLength countFrom
 marched-are = (refl, refl)
 
@@ -121,7 +121,7 @@ first = record { n = 0; m = 1; proper = lit≤ tt; after = lit≤ tt; before = l
 start-is : (K .iso ≡ 1) × (fieldAt K ray 0 1 ≡ pos 0 over 68719476736) × (demanded K ray 1024 ≡ pos 538968064 over 8589934592)
 unfolding
     u16 u32 i16 isPoint iso distance start count nodeAt zeroBytes recordAt recordsFrom nodesFrom nodes operatorOf itemOf items joinTop step run
-    treeValue kernelOf plus squaredDistance pointAt fieldAt demandedOf sumOver demanded
+    treeValue version kernelOf plus squaredDistance pointAt fieldAt demandedOf sumOver demanded
 start-is = (refl, refl, refl)
 
 -- a mark of tick 0 that is sound is neither crossing nor inside
@@ -280,7 +280,7 @@ module _ {budget : ℕ} where
 bits-are : (bitOf K ray 1024 330 ≡ 0) × (bitOf K ray 1024 400 ≡ 1)
 unfolding
     u16 u32 i16 isPoint iso distance start count nodeAt zeroBytes recordAt recordsFrom nodesFrom nodes ceil operatorOf itemOf items joinTop step run
-    treeValue kernelOf raySquare prepare distanceAt footInside footDistance lowQ highQ qlo qhi weighted pointBounds joinBounds treeBounds stateOf
+    treeValue version kernelOf raySquare prepare distanceAt footInside footDistance lowQ highQ qlo qhi weighted pointBounds joinBounds treeBounds stateOf
     spanState markOf solidBy middleSolid tickBit bitOf
 bits-are = (refl, refl)
 
@@ -289,7 +289,7 @@ middle-is : (fieldAt K ray 1 2048 ≡ pos 0 over 1208925819614629174706176) × (
     × (fieldAt K ray 1025 2048 ≡ pos 4835666385040738023899136 over 1208925819614629174706176)
 unfolding
     u16 u32 i16 isPoint iso distance start count nodeAt zeroBytes recordAt recordsFrom nodesFrom nodes operatorOf itemOf items joinTop step run
-    treeValue kernelOf plus squaredDistance pointAt fieldAt roundingOf sumOver rounding
+    treeValue version kernelOf plus squaredDistance pointAt fieldAt roundingOf sumOver rounding
 middle-is = (refl, refl, refl)
 
 module _ {probes : ℕ} {after : List ℕ} (d : ColumnDemands K ray exponent (column.Complete probes) after) where
@@ -399,24 +399,28 @@ unfolding
     positionInRange rayInRange rayQuestions bufferQuestions castAfter fullCast
 asked-12-first budget = refl
 
--- a check that refuses file K, and one that counts two nodes
+-- a check that refuses file K, one that counts two nodes, and one that reads another version
 pub refused-file : (number : ℕ) → Says fileK (part.Refused number) → ⊥
 unfolding Says
 refused-file number e = no-is-not-yes (sym e ∙ accepted-are .0)
 
-pub two-nodes : (i : ℕ) → Says fileK (part.Accepted (record { nodes = 2; iso = i })) → ⊥
+pub two-nodes : (i v : ℕ) → Says fileK (part.Accepted (record { nodes = 2; iso = i; version = v })) → ⊥
 unfolding Says u16 u32 distance count
-two-nodes i (ok, n, _) = omega (arith, n)
+two-nodes i v (ok, n, _, _) = omega (arith, n)
+
+pub another-version : (n i : ℕ) → Says fileK (part.Accepted (record { nodes = n; iso = i; version = 2 })) → ⊥
+unfolding Says u16 version
+another-version n i (ok, _, _, v) = omega (arith, v)
 
 -- the exact field at the origin is 4: a high below that does not enclose it; and bounds that do are not the tree's if they are looser
 pub not-enclosing : (low : ℤ) → PlaceSays fileK (at (pos 0) (pos 0)) (place.Bounded (record { low = low; high = pos 17179869183 })) → ⊥
 unfolding
     u16 u32 i16 isPoint iso distance start count nodeAt zeroBytes recordAt recordsFrom nodesFrom nodes operatorOf itemOf items joinTop step run
-    treeValue kernelOf squaredDistance pointAt fieldAt PlaceSays
+    treeValue version kernelOf squaredDistance pointAt fieldAt PlaceSays
 not-enclosing low b = b .encloses .below .cross .le
 
 pub loose : PlaceSays fileK (at (pos 0) (pos 0)) (place.Bounded (record { low = pos 0; high = pos 17179869184 })) → ⊥
 unfolding
     u16 u32 i16 isPoint iso distance start count nodeAt zeroBytes recordAt recordsFrom nodesFrom nodes ceil operatorOf itemOf items joinTop step run
-    treeValue kernelOf raySquare prepare distanceAt footInside footDistance lowQ highQ qlo qhi weighted pointBounds treeBounds PlaceSays
+    treeValue version kernelOf raySquare prepare distanceAt footInside footDistance lowQ highQ qlo qhi weighted pointBounds treeBounds PlaceSays
 loose b = omega (arith, ap (λ (c : Bounds). natAbs (c .low)) (b .tree))

@@ -1,4 +1,4 @@
--- Worked writes as rows of a table that one theorem covers (document 02, P2): numbers, iso-value, the buffer's length, the place, and what the
+-- Worked writes as rows of a table that one theorem covers (document 02, P2 and P9): numbers, iso-value, version, the buffer's length, the place, and what the
 -- questions answer; the bytes of two parts; and wrong bytes that the writer's promise refutes, each by one of its fields:
 --     exchanged                     `read`
 --     other-iso                     `checked`
@@ -52,12 +52,16 @@ points (suc n) = pointK ++ points n
 pub record Row : Type 0 where
   pub numbers : List ℤ
   pub iso : ℕ
+  pub version : ℕ
   pub room : ℕ
   pub place : ℕ
   pub answer : Verdict
 
+abbrev rowOf : ℕ → List ℤ → ℕ → ℕ → ℕ → Verdict → Row
+rowOf v l i room place answer = record { numbers = l; iso = i; version = v; room = room; place = place; answer = answer }
+
 abbrev row : List ℤ → ℕ → ℕ → ℕ → Verdict → Row
-row l i room place answer = record { numbers = l; iso = i; room = room; place = place; answer = answer }
+row l i room place answer = rowOf 1 l i room place answer
 
 unfoldable pub rows : List Row
 rows =
@@ -72,6 +76,13 @@ rows =
     ∷ row (replicate 5 (pos 1)) 1 24 0 (No 16)
     ∷ row (pos 1 ∷ pointK) 0 24 0 (No 16)
     ∷ row (points 512) 1 70000 0 (No 16)
+    -- versions 0, 2, 3 and 65,537; 16 comes before 3, and 3 before 5
+    ∷ rowOf 0 pointK 1 24 0 (No 3)
+    ∷ rowOf 2 pointK 1 24 0 Yes
+    ∷ rowOf 3 pointK 1 24 0 (No 3)
+    ∷ rowOf 65537 pointK 1 24 0 (No 3)
+    ∷ rowOf 3 (pos 1 ∷ pointK) 1 24 0 (No 16)
+    ∷ rowOf 3 pointK 0 24 0 (No 3)
     -- iso-value 0, 4,096 and 4,097; 5 comes before 6
     ∷ row pointK 0 24 0 (No 5)
     ∷ row pointK 4096 24 0 Yes
@@ -101,7 +112,7 @@ rows =
     ∷ row (points 2 ++ operator (pos 5) (pos 0)) 1 47 0 (No 17)
     ∷ []
 
-pub asked : map (λ r. firstNo (writerQuestions (r .numbers) (r .iso) (r .room) (r .place))) rows ≡ map (λ r. r .answer) rows
+pub asked : map (λ r. firstNo (writerQuestions (r .numbers) (r .iso) (r .version) (r .room) (r .place))) rows ≡ map (λ r. r .answer) rows
 unfolding
     rows points firstNo isPoint kindKnown coordinate inRange forPoint forOperator heldAfter nodeQuestions recordQuestions recordsQuestions nodeIn
     nodesIn given othersZero recordOf size counted hasRoom writerQuestions
@@ -110,18 +121,25 @@ asked = refl
 -- ---- the bytes
 
 -- file K; and a point at x = −2,047 before a sum, iso-value 4,096
-pub written-K : partBytes (given pointK) 1
+pub written-K : partBytes (given pointK) 1 1
     ≡ 0x01 ∷ 0x00 ∷ 0x00 ∷ 0x02 ∷ 0x00 ∷ 0x00 ∷ 0x00 ∷ 0x00 ∷ 0x00 ∷ 0x00 ∷ 0x04 ∷ 0x00
     ∷ 0x01 ∷ 0x00 ∷ 0x01 ∷ 0x00 ∷ 0x18 ∷ 0x00 ∷ 0x00 ∷ 0x00 ∷ 0x54 ∷ 0x52 ∷ 0x45 ∷ 0x45 ∷ []
 unfolding nodeIn nodesIn given bits16 u16Bytes u32Bytes i16Bytes recordBytes recordsBytes size trailerBytes partBytes
 written-K = refl
 
-pub written-negative : partBytes (given (point (pos 1) (pos 1024) (negsuc 2046) ++ operator (pos 2) (pos 0))) 4096
+pub written-negative : partBytes (given (point (pos 1) (pos 1024) (negsuc 2046) ++ operator (pos 2) (pos 0))) 4096 1
     ≡ 0x01 ∷ 0x00 ∷ 0x00 ∷ 0x04 ∷ 0x01 ∷ 0xf8 ∷ 0x00 ∷ 0x00 ∷ 0x00 ∷ 0x00 ∷ 0x04 ∷ 0x00
     ∷ 0x02 ∷ 0x00 ∷ 0x00 ∷ 0x00 ∷ 0x00 ∷ 0x00 ∷ 0x00 ∷ 0x00 ∷ 0x00 ∷ 0x00 ∷ 0x00 ∷ 0x00
     ∷ 0x00 ∷ 0x10 ∷ 0x01 ∷ 0x00 ∷ 0x24 ∷ 0x00 ∷ 0x00 ∷ 0x00 ∷ 0x54 ∷ 0x52 ∷ 0x45 ∷ 0x45 ∷ []
 unfolding nodeIn nodesIn given bits16 u16Bytes u32Bytes i16Bytes recordBytes recordsBytes size trailerBytes partBytes
 written-negative = refl
+
+-- file K with version 2
+pub written-2 : partBytes (given pointK) 1 2
+    ≡ 0x01 ∷ 0x00 ∷ 0x00 ∷ 0x02 ∷ 0x00 ∷ 0x00 ∷ 0x00 ∷ 0x00 ∷ 0x00 ∷ 0x00 ∷ 0x04 ∷ 0x00
+    ∷ 0x01 ∷ 0x00 ∷ 0x02 ∷ 0x00 ∷ 0x18 ∷ 0x00 ∷ 0x00 ∷ 0x00 ∷ 0x54 ∷ 0x52 ∷ 0x45 ∷ 0x45 ∷ []
+unfolding nodeIn nodesIn given bits16 u16Bytes u32Bytes i16Bytes recordBytes recordsBytes size trailerBytes partBytes
+written-2 = refl
 
 -- ---- wrong bytes
 
@@ -138,7 +156,7 @@ left a x y i b =
     a ∷ 0x01 ∷ 0x00 ∷ 0x00 ∷ 0x02 ∷ x ∷ 0x00 ∷ y ∷ 0x00 ∷ 0x00 ∷ 0x00 ∷ 0x04 ∷ 0x00
     ∷ i ∷ 0x00 ∷ 0x01 ∷ 0x00 ∷ 0x18 ∷ 0x00 ∷ 0x00 ∷ 0x00 ∷ 0x54 ∷ 0x52 ∷ 0x45 ∷ 0x45 ∷ b ∷ []
 
-pub exchanged : WriteSays pointA 1 lent 1 (End 25) (left 0x77 2 1 1 0x77) → ⊥
+pub exchanged : WriteSays pointA 1 1 lent 1 (End 25) (left 0x77 2 1 1 0x77) → ⊥
 unfolding WriteSays u16 u32 i16 distance start count nodeAt zeroBytes recordAt recordsFrom nodesFrom nodes numbers
 exchanged says = omega (arith, ap (λ (l : List ℤ). natAbs (getD l 2 (pos 0))) (says .read))
 
@@ -146,29 +164,41 @@ isoOf : Checked → ℕ
 isoOf (part.Refused number) = 0
 isoOf (part.Accepted s) = s .iso
 
-pub other-iso : WriteSays pointA 1 lent 1 (End 25) (left 0x77 1 2 3 0x77) → ⊥
+pub other-iso : WriteSays pointA 1 1 lent 1 (End 25) (left 0x77 1 2 3 0x77) → ⊥
 unfolding
     WriteSays isoOf u16 u32 i16 hasBytes zeros firstNo isPoint kindKnown coordinate inRange forPoint forOperator heldAfter nodeAt zeroBytes recordAt
     nodeQuestions recordQuestions iso version distance marked trailerQuestions start count recordsFrom records recordsQuestions fileQuestions answerOf
     checkFile
 other-iso says = omega (arith, ap isoOf (says .checked))
 
-pub cleared-before : WriteSays pointA 1 lent 1 (End 25) (left 0 1 2 1 0x77) → ⊥
+versionOf : Checked → ℕ
+versionOf (part.Refused number) = 0
+versionOf (part.Accepted s) = s .version
+
+-- version 1 written where 2 was given
+pub other-version : WriteSays pointA 1 2 lent 1 (End 25) (left 0x77 1 2 1 0x77) → ⊥
+unfolding
+    WriteSays versionOf u16 u32 i16 hasBytes zeros firstNo isPoint kindKnown coordinate inRange forPoint forOperator heldAfter nodeAt zeroBytes
+    recordAt nodeQuestions recordQuestions iso version distance marked trailerQuestions start count recordsFrom records recordsQuestions fileQuestions
+    answerOf checkFile
+other-version says = omega (arith, ap versionOf (says .checked))
+
+pub cleared-before : WriteSays pointA 1 1 lent 1 (End 25) (left 0 1 2 1 0x77) → ⊥
 unfolding WriteSays
 cleared-before says = omega (arith, ap (λ (l : List ℕ). getD l 0 0) (says .before-kept))
 
-pub cleared-after : WriteSays pointA 1 lent 1 (End 25) (left 0x77 1 2 1 0) → ⊥
+pub cleared-after : WriteSays pointA 1 1 lent 1 (End 25) (left 0x77 1 2 1 0) → ⊥
 unfolding WriteSays
 cleared-after says = omega (arith, ap (λ (l : List ℕ). getD l 0 0) (says .after-kept))
 
-pub changed-refused : WriteSays pointA 0 lent 1 (Refused 5) (left 0x77 1 2 0 0x77) → ⊥
+pub changed-refused : WriteSays pointA 0 1 lent 1 (Refused 5) (left 0x77 1 2 0 0x77) → ⊥
 unfolding WriteSays
 changed-refused (first, refusal, same) = omega (arith, ap (λ (l : List ℕ). getD l 1 0) same)
 
 -- ---- file K, read and written again
 
 abbrev fileK : List ℕ
-fileK = partBytes (given pointK) 1
+fileK = partBytes (given pointK) 1 1
 
 -- that bytes are bytes, by computing
 allBelow : List ℕ → Bool
@@ -181,7 +211,7 @@ octets [] e k h = absurd (not-suc-le-zero h)
 octets (b ∷ later) e zero h = ltb-true b 256 (both-true (ltb b 256) (allBelow later) e .0)
 octets (b ∷ later) e (suc k) h = octets later (both-true (ltb b 256) (allBelow later) e .1) k (omega arith)
 
-read-K : ReadFrom fileK pointK 1 24
+read-K : ReadFrom fileK pointK 1 1 24
 unfolding
     allBelow nodeIn nodesIn given bits16 u16Bytes u32Bytes i16Bytes recordBytes recordsBytes size trailerBytes partBytes u16 u32 i16 hasBytes zeros
     firstNo isPoint kindKnown coordinate inRange forPoint forOperator heldAfter nodeAt zeroBytes recordAt nodeQuestions recordQuestions iso version
@@ -192,10 +222,11 @@ read-K = record {
   no-leading = refl;
   numbers-read = refl;
   iso-read = refl;
+  version-read = refl;
   room-enough = omega arith;
 }
 
-pub other-file : (after : List ℕ) → getD after 5 0 ≡ 1 → Returned pointK 1 (replicate 24 0x77) 0 (End 24) after → ⊥
+pub other-file : (after : List ℕ) → getD after 5 0 ≡ 1 → Returned pointK 1 1 (replicate 24 0x77) 0 (End 24) after → ⊥
 unfolding Returned nodeIn nodesIn given bits16 u16Bytes u32Bytes i16Bytes recordBytes recordsBytes size trailerBytes partBytes
 other-file after one returned =
     let e : getD after 5 0 ≡ 0 = ap (λ (l : List ℕ). getD l 5 0) (returned fileK read-K refl .1) in

@@ -11,10 +11,9 @@ use lib.Dec.{leb}
 use lib.ListN.{length}
 use Rattle.exact.specs.Range.{eqℤ}
 use Rattle.exact.proofs.Tests.{eqℤ-true, both-true}
-use Rattle.record.specs.Questions.{Question, firstNo, next}
-use Rattle.record.specs.declared.Verdict.{Verdict}
-use Rattle.record.specs.declared.Verdict.the-variants.{Yes, No}
-use Rattle.record.proofs.Questions.{firstNo-append, no-is-not-yes}
+use Rattle.record.specs.Questions.{Question, firstNo}
+use Rattle.record.specs.declared.Verdict.the-variants.{No}
+use Rattle.record.proofs.Questions.{no-is-not-yes}
 use Rattle.part.specs.File.{fileQuestions}
 use Rattle.field.specs.declared.Ray.{Ray}
 use Rattle.field.specs.Ray.{constantRay}
@@ -32,38 +31,14 @@ use Rattle.view.proofs.Call.{view-refusal}
 use Rattle.totals.specs.declared.Call.{Call}
 use Rattle.totals.specs.declared.Call.the-variants as call
 use Rattle.totals.specs.Calls.{answerTo, bytesLeft}
+use Rattle.earlier.proofs.Questions.{same-verdict, unheard, its-own}
 use Rattle.earlier.specs.Calls.{endsDiffer, rayOf, roomQuestions, earlierQuestions, answerBy, bytesBy, earlierAnswer, earlierBytes}
 use Rattle.earlier.specs.Calls.{earlierViewQuestions, earlierView}
 
--- ---- question 13 between others
-
-module _ (before : List Question) (b : Bool) (later : List Question) where
-  abbrev earlier : Verdict
-  earlier = firstNo (before ++ (13, b) ∷ later)
-
-  -- a first no that is not 13 is that of the others
-  same-verdict : (earlier ≡ No 13 → ⊥) → firstNo (before ++ later) ≡ earlier
-  unfolding firstNo next
-  same-verdict not-13 = firstNo-append before later ∙ sym (go (firstNo before) b (λ e. not-13 (split ∙ e))) ∙ sym split
-    where
-      split : earlier ≡ next (firstNo before) (firstNo ((13, b) ∷ later))
-      split = firstNo-append before ((13, b) ∷ later)
-
-      go : (v : Verdict) (b : Bool) → (next v (firstNo ((13, b) ∷ later)) ≡ No 13 → ⊥)
-          → next v (firstNo ((13, b) ∷ later)) ≡ next v (firstNo later)
-      go Yes true h = refl
-      go Yes false h = absurd (h refl)
-      go (No n) b h = refl
-
-  -- and 13 is question 13's, where no other question has the number
-  its-own : (firstNo before ≡ No 13 → ⊥) → (firstNo later ≡ No 13 → ⊥) → earlier ≡ No 13 → b ≡ false
-  unfolding firstNo next
-  its-own not-before not-later e = go (firstNo before) b not-before (sym (firstNo-append before ((13, b) ∷ later)) ∙ e)
-    where
-      go : (v : Verdict) (b : Bool) → (v ≡ No 13 → ⊥) → next v (firstNo ((13, b) ∷ later)) ≡ No 13 → b ≡ false
-      go Yes true not-v h = absurd (not-later h)
-      go Yes false not-v h = refl
-      go (No n) b not-v h = absurd (not-v h)
+-- a first no that is not 13 is that of the other questions
+kept-verdict : (before : List Question) (b : Bool) (later : List Question) → (firstNo (before ++ (13, b) ∷ later) ≡ No 13 → ⊥)
+    → firstNo (before ++ later) ≡ firstNo (before ++ (13, b) ∷ later)
+kept-verdict before b later not-13 = sym (unheard before 13 later) ∙ same-verdict before 13 later b true (λ e. refl) not-13
 
 -- ends that do not differ are one place
 one-end : (ray : Ray) → endsDiffer ray ≡ false → ray ≡ constantRay (ray .start)
@@ -121,12 +96,12 @@ module _ (file : List ℕ) (c : Call) where
   pub kept : (lent : List ℕ) → (firstNo (earlierQuestions file c (length lent)) ≡ No 13 → ⊥)
       → (answerTo file c (length lent) ≡ earlierAnswer file c (length lent)) × (bytesLeft file c lent ≡ earlierBytes file c lent)
   kept lent not-13 =
-      let v = same-verdict asked (endsDiffer (rayOf c)) (roomQuestions c (length lent)) not-13 in
+      let v = kept-verdict asked (endsDiffer (rayOf c)) (roomQuestions c (length lent)) not-13 in
       rw (sym v) (by-verdict file c lent)
 
   pub equal-ends : (room : ℕ) → firstNo (earlierQuestions file c room) ≡ No 13 → rayOf c ≡ constantRay (rayOf c .start)
   equal-ends room e =
-      one-end (rayOf c) (its-own asked (endsDiffer (rayOf c)) (roomQuestions c room)
+      one-end (rayOf c) (its-own asked 13 (roomQuestions c room) (endsDiffer (rayOf c))
       (λ f. let n = ray-refusal file (rayOf c) f in omega (arith, n .1)) (room-14 c room) e)
 
 -- ---- viewer's first hit
@@ -139,11 +114,11 @@ module _ (file : List ℕ) (ray : ViewRay) where
       → viewerFirstHit file ray budget ≡ earlierView file ray budget
   unfolding viewerFirstHit viewerTicks viewQuestions
   kept-view budget not-13 =
-      let v = same-verdict view-asked (endsDiffer (stepsRay ray)) [] not-13 in
+      let v = kept-verdict view-asked (endsDiffer (stepsRay ray)) [] not-13 in
       rw (sym v, append-nil view-asked)
 
   pub equal-view-ends : firstNo (earlierViewQuestions file ray) ≡ No 13 → stepsRay ray ≡ constantRay (stepsRay ray .start)
   unfolding viewQuestions firstNo
   equal-view-ends e =
-      one-end (stepsRay ray) (its-own view-asked (endsDiffer (stepsRay ray)) []
+      one-end (stepsRay ray) (its-own view-asked 13 [] (endsDiffer (stepsRay ray))
       (λ f. elim (view-refusal file ray f) [ inl n ↦ omega (arith, n .1) | inr n ↦ omega (arith, n) ]) (λ f. no-is-not-yes (sym f)) e)

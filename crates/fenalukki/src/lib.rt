@@ -159,7 +159,13 @@ pub extern "C" fn fenalukki_read(file: &[u8], numbers: &mut [i32; 3066]) -> u64
 
 // Records and trailer of a part file, from a place of the buffer on.
 #[no_mangle]
-pub extern "C" fn fenalukki_write(numbers: &[i32], iso: u32, version: u32, buffer: &mut [u8], place: usize) -> u32
+pub extern "C" fn fenalukki_write(
+    numbers: &[i32],
+    iso: u32,
+    version: u32,
+    buffer: &mut [u8],
+    place: usize,
+) -> u32
     ensures { λ r. ⌜ HostWrite (now (numbers .entry)) iso version (now (buffer .entry)) place r (now (buffer .exit)) ⌝ }
 {
     write_number(write(numbers, iso, version, buffer, place))

@@ -22,8 +22,8 @@ powers : (n l h : ℕ) → h ≤ 65536 → h ^ suc n ≤ l ^ suc n + suc n * 655
 powers n l h b = elim (≤-total h l) [
   | inl k ↦ (let f : h ^ suc n ≤ l ^ suc n = pow-le-pow-left k (suc n) in omega arith)
   | inr k ↦
-  let e : h ≡ l + (h - l) = omega arith in
-  subst (λ (x : ℕ). x ^ suc n ≤ l ^ suc n + suc n * 65536 ^ n * (h - l)) (sym e) (more n l (h - l) (omega arith))
+      let e : h ≡ l + (h - l) = omega arith in
+      subst (λ (x : ℕ). x ^ suc n ≤ l ^ suc n + suc n * 65536 ^ n * (h - l)) (sym e) (more n l (h - l) (omega arith))
 ]
   where
     step : (x y c m l g : ℕ) → x ≤ y + m * c * g → x ≤ c * 65536 → l ≤ 65536 → x * (l + g) ≤ y * l + (m + 1) * (c * 65536) * g

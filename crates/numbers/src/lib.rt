@@ -105,7 +105,9 @@ pub fn check_number(answer: Checked) -> u64
 {
     match answer {
         Checked::Refused(number) => number as u64,
-        Checked::Accepted(part) => part.version as u64 * CASE + part.nodes as u64 * TICK + part.iso as u64,
+        Checked::Accepted(part) => part.version as u64 * CASE
+            + part.nodes as u64 * TICK
+            + part.iso as u64,
     }
 }
 

@@ -192,7 +192,11 @@ fn weigh_sizes(part: Summary, w: i64, low: u64, high: u64) -> Bounds
     ensures { λ r. ⌜ r ≡ weighted w (kernelOf part .low low) (kernelOf part .high high) ⌝ }
 {
     if part.version == 2 {
-        return weigh(w, low * low * low / 65536, (high * high * high + 65535) / 65536);
+        return weigh(
+            w,
+            low * low * low / 65536,
+            (high * high * high + 65535) / 65536,
+        );
     }
     weigh(w, low * low, high * high)
 }
