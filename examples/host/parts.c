@@ -1,6 +1,7 @@
-/* parts FOLDER writes five part files into FOLDER: pad.part, a lattice pad;
+/* parts FOLDER writes seven part files into FOLDER: pad.part, a lattice pad;
  * core.part, core-sum.part and core-cut.part, a filter core with its bores made
- * in three ways; k.part, one point. All numbers are whole, lengths in steps of
+ * in three ways; tee.part and tee-soft.part, a pump's tee in degree 4 and in
+ * degree 6; k.part, one point. All numbers are whole, lengths in steps of
  * 1/64 mm, so the bytes are the same everywhere. */
 #include "fenalukki.h"
 
@@ -12,6 +13,7 @@ struct part {
     int32_t numbers[FENALUKKI_NUMBERS_MAX];
     size_t count; /* of numbers */
     uint32_t iso;
+    uint32_t version;
 };
 
 static void put_node(struct part *part, int kind, int r, int x, int y, int z, int w)
@@ -215,6 +217,50 @@ static void make_core_cut(struct part *part)
     make_bored(part, &fine, 33, CUT);
 }
 
+/* A tee: three tubes that meet, and the same at half the size for their bores,
+ * cut out. A tube is a row of points, r twice their distance, and the point in
+ * the middle is in all three. The weight is chosen by the degree, so that a lone
+ * tube is about TUBE_R thick in both. */
+
+enum { TEE_ISO = 19, TUBE_R = 600, TUBE_EVERY = 300, TUBE_POINTS = 5 };
+enum { TEE_W = 18, TEE_SOFT_W = 28 };
+
+/* The middle and the three rows, at 1/part_of the size and part_of times as many
+ * points. */
+static void put_tubes(struct part *part, int part_of, int w)
+{
+    int arm, i;
+
+    put_point(part, TUBE_R / part_of, 0, 0, 0, w);
+    for (arm = 0; arm < 24; arm += 8) {
+        for (i = 1; i <= TUBE_POINTS * part_of; i++) {
+            int along = i * TUBE_EVERY / part_of;
+
+            put_point(part, TUBE_R / part_of, along * cosine(arm) / 1000, along * sine(arm) / 1000, 0, w);
+            join(part, SUM);
+        }
+    }
+}
+
+static void make_tee_of(struct part *part, uint32_t version, int w)
+{
+    put_tubes(part, 1, w);
+    put_tubes(part, 2, w);
+    join(part, CUT);
+    part->iso = TEE_ISO;
+    part->version = version;
+}
+
+static void make_tee(struct part *part)
+{
+    make_tee_of(part, FENALUKKI_FILE_VERSION_DEGREE_4, TEE_W);
+}
+
+static void make_tee_soft(struct part *part)
+{
+    make_tee_of(part, FENALUKKI_FILE_VERSION_DEGREE_6, TEE_SOFT_W);
+}
+
 /* File K of the worked rays. */
 static void make_k(struct part *part)
 {
@@ -237,7 +283,8 @@ static int write_file(const char *path, const uint8_t *bytes, size_t length)
 static int write_part(const char *path, const struct part *part)
 {
     static uint8_t bytes[FENALUKKI_WRITE_BYTES_MAX];
-    uint32_t number = fenalukki_write(part->numbers, part->count, part->iso, bytes, sizeof bytes, 0);
+    uint32_t number = fenalukki_write(part->numbers, part->count, part->iso, part->version, bytes,
+                                      sizeof bytes, 0);
 
     if (fenalukki_refusal(number)) {
         fprintf(stderr, "parts: %s: %s\n", path, fenalukki_refusal_text(number));
@@ -261,6 +308,7 @@ static int write_made(const char *folder, const char *name, void (*make)(struct 
         return 0;
     }
     part.count = 0;
+    part.version = FENALUKKI_FILE_VERSION_DEGREE_4;
     make(&part);
     return write_part(path, &part);
 }
@@ -269,13 +317,15 @@ int main(int argc, char **argv)
 {
     if (argc != 2) {
         fprintf(stderr, "usage: parts FOLDER\n"
-                        "Writes pad.part, core.part, core-sum.part, core-cut.part and k.part\n"
-                        "into FOLDER.\n");
+                        "Writes pad.part, core.part, core-sum.part, core-cut.part, tee.part,\n"
+                        "tee-soft.part and k.part into FOLDER.\n");
         return 1;
     }
     return !(write_made(argv[1], "pad.part", make_pad)
              && write_made(argv[1], "core.part", make_core)
              && write_made(argv[1], "core-sum.part", make_core_sum)
              && write_made(argv[1], "core-cut.part", make_core_cut)
+             && write_made(argv[1], "tee.part", make_tee)
+             && write_made(argv[1], "tee-soft.part", make_tee_soft)
              && write_made(argv[1], "k.part", make_k));
 }
