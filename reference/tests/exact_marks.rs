@@ -55,8 +55,8 @@ impl Case {
         assert_eq!(first[..fewer as usize], marks[..fewer as usize]);
         let mut bits = [9; 128];
         assert!(column(&file, &ray, &mut bits).probes().is_some());
-        let tolerance = tolerance(&part.nodes, &ray).expect("a tree").reduced();
-        let rounding = rounding(&part.nodes).expect("a tree").reduced();
+        let tolerance = tolerance(&part, &ray).expect("a tree").reduced();
+        let rounding = rounding(&part).expect("a tree").reduced();
         Case {
             part,
             ray,
