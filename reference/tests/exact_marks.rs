@@ -247,7 +247,7 @@ fn few_points() {
         weight: (-6, 30),
         iso: (1, 6),
     };
-    run(31, &shape, 120, 1)
+    run(231, &shape, 120, 1)
         .assert_more(10_000, 200)
         .assert_bits(100);
 }
@@ -277,12 +277,12 @@ fn small_radii() {
 fn large_weights() {
     let shape = Shape {
         points: (1, 3),
-        reach: 800,
+        reach: 300,
         radius: (200, 1024),
         weight: (-4096, 4096),
         iso: (1, 900),
     };
-    run(33, &shape, 60, 1)
+    run(33, &shape, 240, 8)
         .assert_more(1_000, 50)
         .assert_bits(30);
 }
