@@ -1,6 +1,8 @@
 //! The exact field, the exact least and greatest u of a span, bounds in
 //! units of 1/2^32, and the tolerance of a crossing tick. All is worked out with
 //! fractions up to the rounding of 65536 u; from there bounds are whole numbers.
+//! A part's degree says which power of u its points take, how a size comes from
+//! 65536 u and the tolerance's two figures.
 //!
 //! A place of a ray is A + s (B - A) for a fraction s from 0 to 1; on a ray of no
 //! length, whose ends coincide, all are the one place. Distances are always worked
@@ -8,7 +10,7 @@
 
 use crate::big::Big;
 use crate::fraction::Fraction;
-use crate::part::{Kind, Node, Part};
+use crate::part::{Degree, Kind, Node, Part};
 
 /// A ray from end A to end B, in steps.
 #[derive(Clone, Copy, Debug, PartialEq, Eq)]
@@ -133,7 +135,8 @@ fn join_fields(kind: Kind, iso: u16, earlier: Fraction, later: Fraction) -> Opti
 pub fn field_at(part: &Part, place: &Place) -> Option<Fraction> {
     let leaf = |_, point: &Node| {
         let u = u_at(place, point);
-        Some(&(&u * &u) * &Fraction::from(i64::from(point.w)))
+        let weight = Fraction::from(i64::from(point.w));
+        Some((0..part.degree.power()).fold(weight, |product, _| &product * &u))
     };
     fold(&part.nodes, leaf, |kind, earlier, later| {
         join_fields(kind, part.iso, earlier, later)
@@ -199,17 +202,31 @@ pub(crate) fn q_high(u: &Fraction) -> i64 {
 }
 
 /// 65536 times the least u rounded down, and times the greatest rounded up.
-pub(crate) fn q_range(least: &Fraction, greatest: &Fraction) -> (i64, i64) {
+pub fn q_range(least: &Fraction, greatest: &Fraction) -> (i64, i64) {
     (q_low(least), q_high(greatest))
 }
 
-/// The bounds of a point of weight w whose q lies between the two given.
-fn weigh(w: i16, low: i64, high: i64) -> Bounds {
+/// The sizes, in units of 1/2^32, that the lesser q and the greater one give. For
+/// degree 4 they are the squares; for degree 6 the cubes over 65536, the lesser
+/// rounded down and the greater rounded up.
+pub fn sizes(degree: Degree, (low, high): (i64, i64)) -> (i64, i64) {
+    let power = |q: i64| q.pow(degree.power());
+    match degree {
+        Degree::Four => (power(low), power(high)),
+        Degree::Six => (
+            power(low).div_euclid(65536),
+            -(-power(high)).div_euclid(65536),
+        ),
+    }
+}
+
+/// The bounds of a point of weight w whose size lies between the two given.
+fn weigh(w: i16, (low, high): (i64, i64)) -> Bounds {
     let w = i64::from(w);
     let (least, most) = if w >= 0 { (low, high) } else { (high, low) };
     Bounds {
-        low: w * least * least,
-        high: w * most * most,
+        low: w * least,
+        high: w * most,
     }
 }
 
@@ -243,10 +260,17 @@ pub(crate) fn tree_bounds(
     part: &Part,
     both_q: impl Fn(usize, &Node) -> Option<(i64, i64)>,
 ) -> Option<Bounds> {
-    let leaf = |index: usize, point: &Node| {
-        let (low, high) = both_q(index, point)?;
-        Some(weigh(point.w, low, high))
-    };
+    tree_bounds_by(part, |index, point| {
+        Some(sizes(part.degree, both_q(index, point)?))
+    })
+}
+
+/// The bounds of the part's tree, told the two sizes of each point.
+pub fn tree_bounds_by(
+    part: &Part,
+    both_sizes: impl Fn(usize, &Node) -> Option<(i64, i64)>,
+) -> Option<Bounds> {
+    let leaf = |index: usize, point: &Node| Some(weigh(point.w, both_sizes(index, point)?));
     fold(&part.nodes, leaf, |kind, earlier, later| {
         join_bounds(kind, part.iso, earlier, later)
     })
@@ -324,22 +348,29 @@ impl SpanBounds for ExactField {
 }
 
 /// The greatest distance of the field from iso in a crossing tick: over the
-/// points, |w| (S/(256 r) + 1/16384).
-pub fn tolerance(nodes: &[Node], ray: &Ray) -> Option<Fraction> {
-    tolerance_for(nodes, ray.spread())
+/// points, |w| (S/(256 r) + 1/16384) for degree 4, |w| (3S/(512 r) + 7/65536) for
+/// degree 6.
+pub fn tolerance(part: &Part, ray: &Ray) -> Option<Fraction> {
+    tolerance_for(part, ray.spread())
 }
 
 /// The part of it that is for the rounding at one place: with S equal to 0.
-pub fn rounding(nodes: &[Node]) -> Option<Fraction> {
-    tolerance_for(nodes, 0)
+pub fn rounding(part: &Part) -> Option<Fraction> {
+    tolerance_for(part, 0)
 }
 
-fn tolerance_for(nodes: &[Node], spread: i64) -> Option<Fraction> {
+fn tolerance_for(part: &Part, spread: i64) -> Option<Fraction> {
     let spread = i128::from(spread);
     let mut total = Fraction::zero();
-    for point in nodes.iter().filter(|node| node.kind == Kind::Point) {
-        let slope = Fraction::new(spread, 256 * i128::from(point.r))?;
-        let rounding = Fraction::new(1, 16384)?;
+    for point in part.nodes.iter().filter(|node| node.kind == Kind::Point) {
+        let r = i128::from(point.r);
+        let (slope, rounding) = match part.degree {
+            Degree::Four => (Fraction::new(spread, 256 * r)?, Fraction::new(1, 16384)?),
+            Degree::Six => (
+                Fraction::new(3 * spread, 512 * r)?,
+                Fraction::new(7, 65536)?,
+            ),
+        };
         let size = Fraction::from(i64::from(point.w).abs());
         total = &total + &(&size * &(&slope + &rounding));
     }

@@ -2,8 +2,8 @@
 //! for tests.
 
 use crate::field::Ray;
-use crate::part::{operator_record, point_record, FileBuilder, Kind, Node, Part};
-use crate::part::{FILE_MARK, OPERATORS, REACH};
+use crate::part::{operator_record, point_record, Degree, FileBuilder, Kind, Node, Part};
+use crate::part::{DEGREES, FILE_MARK, OPERATORS, REACH};
 use crate::totals::{Totals, CEILING};
 
 /// The SplitMix64 generator.
@@ -107,8 +107,16 @@ pub fn part_of_form(random: &mut SplitMix64, shape: &Shape, form: Form) -> Part 
             held += 1;
         }
     }
-    let iso = random.between(shape.iso.0, shape.iso.1) as u16;
-    Part { iso, nodes }
+    Part {
+        iso: random.between(shape.iso.0, shape.iso.1) as u16,
+        degree: degree(random),
+        nodes,
+    }
+}
+
+/// Either degree, from a stream of its own: what is drawn next stays the same.
+fn degree(random: &SplitMix64) -> Degree {
+    SplitMix64::new(!random.0).pick(&DEGREES)
 }
 
 /// Whether two or more held values are joined before the next point.
@@ -171,6 +179,7 @@ pub fn cancelling(random: &mut SplitMix64) -> Part {
     let (more, wider) = (near() * 5, near());
     Part {
         iso: random.between(1, 30) as u16,
+        degree: degree(random),
         nodes: vec![
             point(r, [0; 3], w),
             point(r.saturating_add_signed(wider), second, more - w),
@@ -185,7 +194,7 @@ pub fn cancelling(random: &mut SplitMix64) -> Part {
 /// ball, an arm added, and a notch cut into all. The bore without its plug is a
 /// cut too.
 pub fn bored(random: &mut SplitMix64) -> Part {
-    let iso = random.between(1, 9) as u16;
+    let (iso, degree) = (random.between(1, 9) as u16, degree(random));
     let mut about = |r: i64, reach: i64, w: i64| {
         let centre = [0; 3].map(|_: i16| random.between(-reach, reach) as i16);
         let r = random.between(r / 2, r) as u16;
@@ -193,6 +202,7 @@ pub fn bored(random: &mut SplitMix64) -> Part {
     };
     Part {
         iso,
+        degree,
         nodes: vec![
             about(1000, 50, 60),
             about(500, 100, 200),
@@ -209,12 +219,12 @@ pub fn bored(random: &mut SplitMix64) -> Part {
     }
 }
 
-/// Points on a grid, 360 steps apart and wide enough to meet.
+/// Points of degree 4 on a grid, 360 steps apart and wide enough to meet.
 pub fn lattice(sizes: [i16; 3]) -> Part {
     grid(sizes, 360, 300)
 }
 
-/// A strut along y, 2 steps from point to point and less than 3 thick, and a
+/// A strut of degree 4 along y, 2 steps from point to point and less than 3 thick, and a
 /// ray along x for each step of it. The rays' ticks are just under 4 steps
 /// long, and one begins in the middle of the strut.
 pub fn strut(points: i16) -> (Part, Vec<Ray>) {
@@ -227,8 +237,8 @@ pub fn strut(points: i16) -> (Part, Vec<Ray>) {
     (grid([1, points, 1], 2, 2), rays.collect())
 }
 
-/// Points of one radius on a grid of the sizes given, an even number of steps
-/// apart about the origin: summed layer by layer, and the greater of the
+/// Points of degree 4 and one radius on a grid of the sizes given, an even number of
+/// steps apart about the origin: summed layer by layer, and the greater of the
 /// layers taken.
 fn grid([width, depth, height]: [i16; 3], apart: i16, r: u16) -> Part {
     let at = |i: i16, size: i16| apart * i - apart / 2 * (size - 1);
@@ -248,7 +258,11 @@ fn grid([width, depth, height]: [i16; 3], apart: i16, r: u16) -> Part {
             nodes.push(operator(Kind::Greater));
         }
     }
-    Part { iso: 1, nodes }
+    Part {
+        iso: 1,
+        degree: Degree::Four,
+        nodes,
+    }
 }
 
 /// How a ray lies to the part.
@@ -284,8 +298,8 @@ pub fn ray(random: &mut SplitMix64, part: &Part, style: Style) -> Ray {
     let (a, b) = match style {
         Style::Axis => axis(random, &target),
         Style::Centre => through_centre(random, &target),
-        Style::Grazing => grazing(random, &target, part.iso),
-        Style::OneStep => one_step(random, &target, part.iso),
+        Style::Grazing => grazing(random, &target, part),
+        Style::OneStep => one_step(random, &target, part),
         Style::Long => long(random),
         Style::Any => (anywhere(random), anywhere(random)),
     };
@@ -302,7 +316,7 @@ fn points(part: &Part) -> Vec<Node> {
 pub fn no_length(random: &mut SplitMix64, part: &Part) -> Ray {
     let target = random.pick(&points(part));
     let r = i64::from(target.r);
-    let size = random.pick(&[r / 3, r, r, surface(&target, part.iso)]);
+    let size = random.pick(&[r / 3, r, r, surface(&target, part)]);
     let mut from_centre = [random.between(-size, size), 0, 0];
     let left = size * size - from_centre[0] * from_centre[0];
     from_centre[1] = random.between(-left.isqrt(), left.isqrt());
@@ -360,18 +374,19 @@ fn axis(random: &mut SplitMix64, target: &Node) -> ([i64; 3], [i64; 3]) {
     parallel(random, target, offset)
 }
 
-fn grazing(random: &mut SplitMix64, target: &Node, iso: u16) -> ([i64; 3], [i64; 3]) {
-    let edge = random.pick(&[i64::from(target.r), surface(target, iso)]);
+fn grazing(random: &mut SplitMix64, target: &Node, part: &Part) -> ([i64; 3], [i64; 3]) {
+    let edge = random.pick(&[i64::from(target.r), surface(target, part)]);
     let offset = edge + random.between(-1, 1);
     parallel(random, target, offset)
 }
 
-/// The greatest whole distance at which the point alone is at least iso.
-fn surface(point: &Node, iso: u16) -> i64 {
+/// The greatest whole distance at which a point of the part alone is at least iso.
+fn surface(point: &Node, part: &Part) -> i64 {
     let r = i128::from(point.r);
+    let power = |squared: i128| squared.pow(part.degree.power());
     let solid = |d: &i64| {
         let depth = r * r - i128::from(*d) * i128::from(*d);
-        i128::from(point.w) * depth * depth >= i128::from(iso) * r * r * r * r
+        i128::from(point.w) * power(depth) >= i128::from(part.iso) * power(r * r)
     };
     (0..i64::from(point.r)).rev().find(solid).unwrap_or(0)
 }
@@ -387,10 +402,10 @@ fn through_centre(random: &mut SplitMix64, target: &Node) -> ([i64; 3], [i64; 3]
     (a, b)
 }
 
-fn one_step(random: &mut SplitMix64, target: &Node, iso: u16) -> ([i64; 3], [i64; 3]) {
+fn one_step(random: &mut SplitMix64, target: &Node, part: &Part) -> ([i64; 3], [i64; 3]) {
     let along = random.between(0, 2) as usize;
     let mut a = centre(target);
-    a[along] += surface(target, iso) + random.between(-1, 1);
+    a[along] += surface(target, part) + random.between(-1, 1);
     let mut b = a;
     b[random.between(0, 2) as usize] += random.pick(&[-1, 1]);
     (a, b)
@@ -411,7 +426,7 @@ pub fn random_bytes(random: &mut SplitMix64) -> Vec<u8> {
     let length = random.pick(&[0, 1, 11, 12, 23, 24, 36, 60, 300]);
     let mut bytes: Vec<u8> = (0..length).map(|_| random.next_u64() as u8).collect();
     if random.one_in(2) {
-        let version = random.pick(&[0, 1, 1, 1]);
+        let version = random.pick(&[0, 1, 1, 2]);
         bytes.extend([1, 0, version, 0, random.pick(&[24, 36, 48, 49]), 0, 0, 0]);
         bytes.extend(FILE_MARK);
     }
@@ -422,6 +437,7 @@ pub fn random_bytes(random: &mut SplitMix64) -> Vec<u8> {
 /// that is right more often than not.
 pub fn random_records(random: &mut SplitMix64) -> Vec<u8> {
     let mut builder = FileBuilder::new(random.pick(&[0, 1, 2, 4096, 4097]));
+    builder = builder.version(degree(random).version());
     for _ in 0..random.pick(&[1, 2, 3, 3, 5, 8, 70]) {
         let centre = [0; 3].map(|_: i16| random.between(-2060, 2060) as i16);
         let mut record = match random.between(0, 9) {
@@ -445,7 +461,7 @@ pub fn fault(builder: FileBuilder, question: u32) -> FileBuilder {
     match question {
         1 => builder.leading(&[0; 65_536]),
         2 => builder.mark([0; 4]),
-        3 => builder.version(2),
+        3 => builder.version(3),
         4 => builder.distance(25),
         5 => builder.iso(0),
         6 => builder.raw(operator_record(6)),

@@ -35,6 +35,41 @@ impl Kind {
     }
 }
 
+/// The degree of the kernel that all points of a part have, numbered by the version
+/// of its file.
+#[derive(Clone, Copy, Debug, PartialEq, Eq)]
+pub enum Degree {
+    /// A point gives its weight times u squared.
+    Four = 1,
+    /// A point gives its weight times u cubed.
+    Six = 2,
+}
+
+/// The degrees.
+pub const DEGREES: [Degree; 2] = [Degree::Four, Degree::Six];
+
+impl Degree {
+    /// The version that stands for it.
+    pub fn version(self) -> u16 {
+        self as u16
+    }
+
+    /// The power of u.
+    pub fn power(self) -> u32 {
+        match self {
+            Degree::Four => 2,
+            Degree::Six => 3,
+        }
+    }
+}
+
+/// Question 3: which of the degrees known the version stands for.
+pub(crate) fn degree_of(version: u32, known: &[Degree]) -> Result<Degree, u32> {
+    let mut degrees = known.iter().copied();
+    let of_version = degrees.find(|degree| u32::from(degree.version()) == version);
+    of_version.ok_or(3)
+}
+
 /// A decoded record; an operator's numbers are 0.
 #[derive(Clone, Copy, Debug, PartialEq, Eq)]
 pub struct Node {
@@ -52,11 +87,13 @@ pub struct Node {
     pub w: i16,
 }
 
-/// An accepted part: its iso-value and its nodes in postfix order.
+/// An accepted part: its iso-value, its degree and its nodes in postfix order.
 #[derive(Clone, Debug, PartialEq, Eq)]
 pub struct Part {
     /// The field value from which a place is solid.
     pub iso: u16,
+    /// The degree of the kernel.
+    pub degree: Degree,
     /// The nodes in file order.
     pub nodes: Vec<Node>,
 }
@@ -69,7 +106,16 @@ pub fn check(file: &[u8]) -> Result<(u32, u32), u32> {
 
 /// Asks questions 1 to 11 and decodes the part.
 pub fn read(file: &[u8]) -> Result<Part, u32> {
-    let (records, iso) = split(file)?;
+    read_knowing(file, &DEGREES)
+}
+
+/// Reads as a reader of the first form does, whose question 3 reads: is the version 1?
+pub fn read_first_form(file: &[u8]) -> Result<Part, u32> {
+    read_knowing(file, &[Degree::Four])
+}
+
+fn read_knowing(file: &[u8], known: &[Degree]) -> Result<Part, u32> {
+    let (records, iso, degree) = split(file, known)?;
     let mut nodes = Vec::new();
     let mut held = 0u32;
     for record in records.chunks_exact(RECORD) {
@@ -78,11 +124,11 @@ pub fn read(file: &[u8]) -> Result<Part, u32> {
         nodes.push(node);
     }
     hold_one(held)?;
-    Ok(Part { iso, nodes })
+    Ok(Part { iso, degree, nodes })
 }
 
-/// Questions 1 to 5: the bytes of the records and the iso-value.
-fn split(file: &[u8]) -> Result<(&[u8], u16), u32> {
+/// Questions 1 to 5: the bytes of the records, the iso-value and the degree.
+fn split<'a>(file: &'a [u8], known: &[Degree]) -> Result<(&'a [u8], u16, Degree), u32> {
     if file.len() < 24 || file.len() > 65_536 {
         return Err(1);
     }
@@ -90,9 +136,7 @@ fn split(file: &[u8]) -> Result<(&[u8], u16), u32> {
     if trailer[8..] != FILE_MARK {
         return Err(2);
     }
-    if unsigned(trailer, 2) != 1 {
-        return Err(3);
-    }
+    let degree = degree_of(unsigned(trailer, 2).into(), known)?;
     let distance = u32::from_le_bytes([trailer[4], trailer[5], trailer[6], trailer[7]]) as usize;
     if !(24..=6144).contains(&distance) || distance.rem_euclid(RECORD) != 0 || distance > file.len()
     {
@@ -100,7 +144,7 @@ fn split(file: &[u8]) -> Result<(&[u8], u16), u32> {
     }
     let iso = unsigned(trailer, 0);
     iso_in_range(iso.into())?;
-    Ok((&before[file.len() - distance..], iso))
+    Ok((&before[file.len() - distance..], iso, degree))
 }
 
 /// Question 5.
@@ -165,7 +209,7 @@ fn signed(bytes: &[u8], at: usize) -> i16 {
 }
 
 /// Builds part files, faulty ones too. Without settings the trailer is right
-/// for the records added.
+/// for the records added, with version 1.
 #[derive(Clone, Debug)]
 pub struct FileBuilder {
     leading: Vec<u8>,
@@ -183,7 +227,7 @@ impl FileBuilder {
             leading: Vec::new(),
             records: Vec::new(),
             iso,
-            version: 1,
+            version: Degree::Four.version(),
             distance: None,
             mark: FILE_MARK,
         }
@@ -299,8 +343,7 @@ pub fn operator_record(kind: u8) -> [u8; RECORD] {
 
 impl From<&Part> for FileBuilder {
     fn from(part: &Part) -> FileBuilder {
-        part.nodes
-            .iter()
-            .fold(FileBuilder::new(part.iso), FileBuilder::node)
+        let empty = FileBuilder::new(part.iso).version(part.degree.version());
+        part.nodes.iter().fold(empty, FileBuilder::node)
     }
 }

@@ -1,11 +1,11 @@
-//! Walls of known thickness, for tests and the benchmark: parts whose solid along
-//! an axis is one stretch, its faces found by fractions, and how many ticks of a ray
+//! Walls of known thickness, for tests and the benchmark: parts of degree 4 whose solid
+//! along an axis is one stretch, its faces found by fractions, and how many ticks of a ray
 //! along the axis they fill.
 
 use crate::cast::{COLUMN_BYTES, TICKS};
 use crate::field::{field_at, Ray};
 use crate::fraction::Fraction;
-use crate::part::{FileBuilder, Kind, Node, Part};
+use crate::part::{Degree, FileBuilder, Kind, Node, Part};
 
 /// Halvings of a stretch of some hundred steps in which a face lies.
 const HALVINGS: u32 = 44;
@@ -80,6 +80,7 @@ impl Wall {
         };
         Part {
             iso: self.iso,
+            degree: Degree::Four,
             nodes: self.nodes.iter().map(node).collect(),
         }
     }

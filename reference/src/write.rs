@@ -1,6 +1,6 @@
 //! The numbers of a part's nodes, and part files written from such numbers.
 
-use crate::part::{self, FileBuilder, Kind, Node, RECORD};
+use crate::part::{self, FileBuilder, Kind, Node, DEGREES, RECORD};
 
 /// Numbers a node: kind, r, x, y, z and w.
 pub const NODE_NUMBERS: usize = 6;
@@ -12,8 +12,14 @@ const MOST_BYTES: u128 = 65_536;
 
 /// Writes records and trailer into the buffer from the place on. The place just
 /// after the trailer, or the refusal number and no byte changed.
-pub fn write(numbers: &[i32], iso: u32, buffer: &mut [u8], place: usize) -> Result<usize, u32> {
-    let bytes = encode(numbers, iso)?;
+pub fn write(
+    numbers: &[i32],
+    iso: u32,
+    version: u32,
+    buffer: &mut [u8],
+    place: usize,
+) -> Result<usize, u32> {
+    let bytes = encode(numbers, iso, version)?;
     let end = place as u128 + bytes.len() as u128;
     if end > MOST_BYTES || end > buffer.len() as u128 {
         return Err(17);
@@ -22,13 +28,14 @@ pub fn write(numbers: &[i32], iso: u32, buffer: &mut [u8], place: usize) -> Resu
     Ok(end as usize)
 }
 
-/// Questions 16 and 5 to 11: the records and the trailer, version 1.
-pub fn encode(numbers: &[i32], iso: u32) -> Result<Vec<u8>, u32> {
+/// Questions 16, 3 and 5 to 11: the records and the trailer.
+pub fn encode(numbers: &[i32], iso: u32, version: u32) -> Result<Vec<u8>, u32> {
     if !(1..=511).any(|nodes| numbers.len() == NODE_NUMBERS * nodes) {
         return Err(16);
     }
+    let degree = part::degree_of(version, &DEGREES)?;
     part::iso_in_range(iso)?;
-    let mut builder = FileBuilder::new(iso as u16);
+    let mut builder = FileBuilder::new(iso as u16).version(degree.version());
     let mut held = 0;
     for six in numbers.chunks_exact(NODE_NUMBERS) {
         let node = node(six)?;
@@ -70,8 +77,9 @@ pub fn numbers(nodes: &[Node]) -> Vec<i32> {
     nodes.iter().flat_map(six).collect()
 }
 
-/// The iso-value and the nodes' numbers of a file, or the refusal number.
-pub fn read(file: &[u8]) -> Result<(u16, Vec<i32>), u32> {
+/// The iso-value, the version and the nodes' numbers of a file, or the refusal
+/// number.
+pub fn read(file: &[u8]) -> Result<(u16, u16, Vec<i32>), u32> {
     let part = part::read(file)?;
-    Ok((part.iso, numbers(&part.nodes)))
+    Ok((part.iso, part.degree.version(), numbers(&part.nodes)))
 }

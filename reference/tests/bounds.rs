@@ -8,7 +8,7 @@ use reference::field::{
 };
 use reference::fraction::Fraction;
 use reference::generate::{self, Shape, SplitMix64, STYLES};
-use reference::part::{read, FileBuilder, Kind, Node, Part, OPERATORS};
+use reference::part::{read, Degree, FileBuilder, Kind, Node, Part, OPERATORS};
 use reference::quick::TickField;
 
 const SHAPES: [Shape; 3] = [
@@ -133,6 +133,7 @@ fn halves_together_bound_the_whole() {
         for point in points(part) {
             let single = Part {
                 iso: 1,
+                degree: part.degree,
                 nodes: vec![Node { w: 1, ..*point }],
             };
             let bounds = |a, b| tick_bounds(&single, ray, a, b).expect("a tree");
@@ -344,8 +345,8 @@ fn exact_values() {
     // S is 6: 625 (6/1280 + 1/16384) twice and 100 (6/2560 + 1/16384).
     let expected = &fraction(2 * 625 * 6, 1280) + &fraction(2 * 625, 16384);
     let expected = &expected + &(&fraction(600, 2560) + &fraction(100, 16384));
-    assert_eq!(tolerance(&part.nodes, &ray), Some(expected));
-    assert_eq!(rounding(&part.nodes), Some(fraction(2 * 625 + 100, 16384)));
+    assert_eq!(tolerance(&part, &ray), Some(expected));
+    assert_eq!(rounding(&part), Some(fraction(2 * 625 + 100, 16384)));
 }
 
 #[test]
@@ -353,6 +354,7 @@ fn no_tree_has_no_value() {
     let place = whole_place([0; 3]);
     let part = |nodes: &[Node]| Part {
         iso: 1,
+        degree: Degree::Four,
         nodes: nodes.to_vec(),
     };
     assert_eq!(field_at(&part(&[]), &place), None);

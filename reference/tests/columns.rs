@@ -14,7 +14,7 @@ use reference::field::Ray;
 use reference::fraction::Fraction;
 use reference::generate::{self, cancelling_or_bored, fault, lattice, part_of_form, strut};
 use reference::generate::{Shape, SplitMix64, FORMS, OVERLAPPING, STYLES};
-use reference::part::{check, FileBuilder, Part};
+use reference::part::{check, Degree, FileBuilder, Part};
 use reference::walls::{walls, LENGTHS};
 use samples::sampled_column;
 use worked::{at_y, file_k, AXIS};
@@ -35,8 +35,8 @@ fn request(random: &mut SplitMix64, part: &Part) -> (Vec<u8>, Ray) {
     (FileBuilder::from(part).build(), ray)
 }
 
-/// Part `i` of a series: of the four forms in turn, then one that nearly
-/// cancels or is bored.
+/// Part `i` of a series, of degree 4, which is the benchmark's: of the four forms in
+/// turn, then one that nearly cancels or is bored.
 fn draw(random: &mut SplitMix64, i: usize) -> Part {
     let shape = Shape {
         points: (1, 70),
@@ -46,9 +46,13 @@ fn draw(random: &mut SplitMix64, i: usize) -> Part {
         iso: (1, 4096),
     };
     let shape = random.pick(&[shape, OVERLAPPING]);
-    match FORMS.get(i % 5) {
+    let part = match FORMS.get(i % 5) {
         Some(&form) => part_of_form(random, &shape, form),
         None => cancelling_or_bored(random),
+    };
+    Part {
+        degree: Degree::Four,
+        ..part
     }
 }
 

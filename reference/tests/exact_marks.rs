@@ -55,8 +55,8 @@ impl Case {
         assert_eq!(first[..fewer as usize], marks[..fewer as usize]);
         let mut bits = [9; 128];
         assert!(column(&file, &ray, &mut bits).probes().is_some());
-        let tolerance = tolerance(&part.nodes, &ray).expect("a tree").reduced();
-        let rounding = rounding(&part.nodes).expect("a tree").reduced();
+        let tolerance = tolerance(&part, &ray).expect("a tree").reduced();
+        let rounding = rounding(&part).expect("a tree").reduced();
         Case {
             part,
             ray,
@@ -247,7 +247,7 @@ fn few_points() {
         weight: (-6, 30),
         iso: (1, 6),
     };
-    run(31, &shape, 120, 1)
+    run(231, &shape, 120, 1)
         .assert_more(10_000, 200)
         .assert_bits(100);
 }
@@ -277,12 +277,12 @@ fn small_radii() {
 fn large_weights() {
     let shape = Shape {
         points: (1, 3),
-        reach: 800,
+        reach: 300,
         radius: (200, 1024),
         weight: (-4096, 4096),
         iso: (1, 900),
     };
-    run(33, &shape, 60, 1)
+    run(33, &shape, 240, 8)
         .assert_more(1_000, 50)
         .assert_bits(30);
 }

@@ -276,7 +276,7 @@ fn read_and_write(file: &[u8]) {
     let array = numbers.as_mut_slice().try_into().expect("so many");
     assert_eq!(entries::read(file, array), entries::check(file));
     let end = 65_536 + file.len() as u32;
-    assert_eq!(entries::write(&numbers, 1, &mut again, 0), end);
+    assert_eq!(entries::write(&numbers, 1, 1, &mut again, 0), end);
     assert_eq!(again, file);
 }
 

@@ -39,6 +39,8 @@ struct Coverage {
     probes: [u32; 4],
     /// Accepted files of 511 records.
     most_records: u32,
+    /// Accepted files by their version.
+    versions: [u32; 2],
     /// Columns on rays of no length.
     no_length: u32,
 }
@@ -80,13 +82,15 @@ impl Coverage {
         }
     }
 
-    fn check(&mut self, answer: Result<(u32, u32), u32>) {
+    fn check(&mut self, file: &[u8]) {
         self.requests += 1;
-        match answer {
+        match host::check(file) {
             Err(number) => self.refused[number as usize] += 1,
             Ok((nodes, _)) => {
                 self.checked += 1;
                 self.most_records += u32::from(nodes == 511);
+                let of_version = usize::from(file[file.len() - 10] == 2);
+                self.versions[of_version] += 1;
             }
         }
     }
@@ -118,6 +122,7 @@ impl Coverage {
         assert!(all(&[self.crossing_hits, self.inside_hits], 2_000));
         assert!(all(&[self.clear, self.hits_spent], 6_000));
         assert!(all(&self.places, 300) && self.checked >= 6_000);
+        assert!(all(&self.versions, 3_000));
         assert!(all(&self.budgets, 5_000) && all(&self.rooms, 2_500));
         assert!(all(&self.probes, 200) && self.most_records >= 200);
     }
@@ -148,7 +153,7 @@ impl Scene {
     /// A check of the file, the bounds at the place, two full casts, two first
     /// hits and a column.
     fn compare(&self, random: &mut SplitMix64, coverage: &mut Coverage) {
-        coverage.check(host::check(&self.file));
+        coverage.check(&self.file);
         coverage.place(host::place_bounds(&self.file, self.place));
         for _ in 0..2 {
             let kind = random.between(0, 6) as usize;

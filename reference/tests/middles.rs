@@ -16,7 +16,7 @@ use reference::field::{Bounds, ExactField, Ray, SpanBounds};
 use reference::generate::{self, bored, cancelling, part_of_form, SplitMix64, FORMS, STYLES};
 use reference::part::{read, FileBuilder, Part};
 use reference::quick::TickField;
-use requests::{operators, GROUPS};
+use requests::{operators_and_degree, GROUPS};
 use std::array::from_fn;
 use std::collections::BTreeMap;
 use worked::{all_crossing, at_y, file_k, AXIS};
@@ -166,7 +166,7 @@ fn compare_all(
         let part = part(random, i);
         let style = STYLES[i % STYLES.len()];
         let ray = generate::ray(random, &part, style);
-        let mut classes = operators(&part);
+        let mut classes = operators_and_degree(&part);
         classes.extend([format!("{style:?}"), name.to_string()]);
         seen.compare(&part, &ray, &classes);
     }
@@ -189,7 +189,7 @@ fn generated_columns() {
     assert_eq!(seen.columns, 25_700);
     assert!(seen.changed > 5_000, "{seen:?}");
     assert!(seen.crossing.iter().all(|&n| n > 30_000), "{seen:?}");
-    assert_eq!(seen.classes.len(), 5 + 6 + 3);
+    assert_eq!(seen.classes.len(), 5 + 2 + 6 + 3);
     let rare = |counts: &[u32; 2]| counts.iter().any(|&n| n < 800);
     assert!(!seen.classes.values().any(rare), "{seen:?}");
     // bounds that add up to exactly twice iso are among the worked ones

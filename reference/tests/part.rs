@@ -4,7 +4,7 @@ use reference::cast::{bounds_at, column, first_hit, full_cast, Column, FirstHit,
 use reference::field::Ray;
 use reference::generate::fault;
 use reference::march::marching_cast;
-use reference::part::{check, operator_record, point_record, read, FileBuilder, Kind};
+use reference::part::{check, operator_record, point_record, read, Degree, FileBuilder, Kind};
 use reference::part::{OPERATORS, RECORD};
 use reference::view::{viewer_first_hit, ViewRay, ViewerHit};
 
@@ -110,12 +110,17 @@ fn question_2_mark() {
 fn question_3_version() {
     for version in 0..=65_535 {
         let file = one_point().version(version).build();
-        let expected = if version == 1 { Ok((1, 1)) } else { Err(3) };
-        assert_eq!(check(&file), expected);
+        let degree = match version {
+            1 => Ok(Degree::Four),
+            2 => Ok(Degree::Six),
+            _ => Err(3),
+        };
+        assert_eq!(check(&file), degree.map(|_| (1, 1)));
+        assert_eq!(read(&file).map(|part| part.degree), degree);
     }
-    assert_refused(&one_point().version(0).build(), 3);
-    assert_refused(&one_point().version(2).build(), 3);
-    assert_refused(&one_point().version(0x0101).build(), 3);
+    for version in [0, 3, 4, 0x0101, 0x0102, 0x0201, 0xffff] {
+        assert_refused(&one_point().version(version).build(), 3);
+    }
 }
 
 #[test]

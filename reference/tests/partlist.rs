@@ -12,7 +12,12 @@ fn expected(file: &[u8]) -> String {
     match read(file) {
         Err(number) => format!("refused {number}\n"),
         Ok(part) => {
-            let head = format!("nodes {} iso {}\n", part.nodes.len(), part.iso);
+            let version = part.degree.version();
+            let head = format!(
+                "nodes {} iso {} version {version}\n",
+                part.nodes.len(),
+                part.iso
+            );
             part.nodes.iter().map(line).fold(head, |text, l| text + &l)
         }
     }

@@ -1,5 +1,5 @@
-//! Drawings: the numbers and the iso-value that a writer is given, whole ones
-//! and damaged ones, and the buffers and places that they are written to.
+//! Drawings: the numbers, the iso-value and the version that a writer is given, whole
+//! ones and damaged ones, and the buffers and places that they are written to.
 
 use reference::generate::SplitMix64;
 use reference::part::{Part, RECORD};
@@ -13,15 +13,17 @@ pub type Six = [i32; NODE_NUMBERS];
 pub struct Drawing {
     pub numbers: Vec<i32>,
     pub iso: u32,
+    pub version: u32,
 }
 
 impl Drawing {
-    /// The nodes, with iso-value 1.
+    /// The nodes, with iso-value 1 and version 1.
     #[allow(dead_code)]
     pub fn of(nodes: &[Six]) -> Drawing {
         Drawing {
             numbers: nodes.concat(),
             iso: 1,
+            version: 1,
         }
     }
 
@@ -43,6 +45,7 @@ impl From<&Part> for Drawing {
         Drawing {
             numbers: numbers(&part.nodes),
             iso: part.iso.into(),
+            version: part.degree.version().into(),
         }
     }
 }
@@ -93,7 +96,7 @@ pub const NUMBERS: [i32; 33] = [
     i32::MIN + 1,
 ];
 
-/// A whole drawing with a fault that the question, 5 to 11 or 16, finds. Faults
+/// A whole drawing with a fault that the question, 3, 5 to 11 or 16, finds. Faults
 /// of 6 to 11 are nodes added at the end, where one value is held.
 pub fn fault(drawing: Drawing, question: u32) -> Drawing {
     let mut faulty = match question {
@@ -106,6 +109,7 @@ pub fn fault(drawing: Drawing, question: u32) -> Drawing {
         _ => drawing,
     };
     match question {
+        3 => faulty.version = 65_538,
         5 => faulty.iso = 65_537,
         16 => faulty.numbers.push(0),
         _ => {}
@@ -124,11 +128,12 @@ pub fn damaged(random: &mut SplitMix64, whole: &Drawing) -> Drawing {
 }
 
 fn damage(random: &mut SplitMix64, mut drawing: Drawing) -> Drawing {
-    match random.between(0, 15) {
-        0..=3 => return fault(drawing, random.pick(&[5, 6, 7, 8, 9, 10, 11, 16])),
+    match random.between(0, 16) {
+        0..=3 => return fault(drawing, random.pick(&[3, 5, 6, 7, 8, 9, 10, 11, 16])),
         4..=10 => change_number(random, &mut drawing),
         11 => drawing.iso = another_iso(random),
-        12 => change_count(random, &mut drawing),
+        12 => drawing.version = another_version(random),
+        13 => change_count(random, &mut drawing),
         _ => change_nodes(random, &mut drawing),
     }
     drawing
@@ -170,6 +175,11 @@ fn another_iso(random: &mut SplitMix64) -> u32 {
         u32::MAX,
         any,
     ])
+}
+
+fn another_version(random: &mut SplitMix64) -> u32 {
+    let any = random.next_u64() as u32;
+    random.pick(&[0, 1, 2, 3, 257, 65_535, 65_537, 65_538, u32::MAX, any])
 }
 
 /// Numbers are lost, down to none, or added, up to one node too many or more.

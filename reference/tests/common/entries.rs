@@ -164,6 +164,7 @@ extern "C" {
         numbers: *const i32,
         numbers_len: usize,
         iso: u32,
+        version: u32,
         buffer: *mut u8,
         buffer_len: usize,
         place: usize,
@@ -312,11 +313,11 @@ pub fn viewer_first_hit_counted(
 }
 
 /// The number of a write.
-pub fn write(numbers: &[i32], iso: u32, buffer: &mut [u8], place: usize) -> u32 {
+pub fn write(numbers: &[i32], iso: u32, version: u32, buffer: &mut [u8], place: usize) -> u32 {
     let (at, len) = (start(numbers), numbers.len());
     let (to, room) = (start_mut(buffer), buffer.len());
     // SAFETY: both pointers are valid for their lengths and do not overlap.
-    unsafe { fenalukki_write(at, len, iso, to, room, place) }
+    unsafe { fenalukki_write(at, len, iso, version, to, room, place) }
 }
 
 /// The number of a read.

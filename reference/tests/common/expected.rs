@@ -74,8 +74,11 @@ fn tick(place: f32) -> u64 {
 /// The number of the check of a file.
 #[allow(dead_code)]
 pub fn check_number(file: &[u8]) -> u64 {
-    match part::check(file) {
-        Ok((nodes, iso)) => 4_294_967_296 + u64::from(nodes) * 65_536 + u64::from(iso),
+    match part::read(file) {
+        Ok(part) => {
+            let [version, iso] = [part.degree.version(), part.iso].map(u64::from);
+            version * 4_294_967_296 + part.nodes.len() as u64 * 65_536 + iso
+        }
         Err(number) => u64::from(number),
     }
 }
@@ -96,8 +99,14 @@ pub fn bounds_number(file: &[u8], at: [i32; 3], bytes: &mut [u8]) -> u64 {
 
 /// The number of a write.
 #[allow(dead_code)]
-pub fn write_number(numbers: &[i32], iso: u32, buffer: &mut [u8], place: usize) -> u32 {
-    match write::write(numbers, iso, buffer, place) {
+pub fn write_number(
+    numbers: &[i32],
+    iso: u32,
+    version: u32,
+    buffer: &mut [u8],
+    place: usize,
+) -> u32 {
+    match write::write(numbers, iso, version, buffer, place) {
         Ok(end) => 65_536 + end as u32,
         Err(number) => number,
     }
@@ -106,7 +115,7 @@ pub fn write_number(numbers: &[i32], iso: u32, buffer: &mut [u8], place: usize) 
 /// The number of a read, and the nodes' numbers, written unless refused.
 #[allow(dead_code)]
 pub fn read_number(file: &[u8], numbers: &mut [i32]) -> u64 {
-    if let Ok((_, right)) = write::read(file) {
+    if let Ok((_, _, right)) = write::read(file) {
         numbers[..right.len()].copy_from_slice(&right);
     }
     check_number(file)

@@ -5,9 +5,12 @@
 
 #[path = "entries.rs"]
 pub mod entries;
+#[path = "expected.rs"]
+mod expected;
 #[path = "guards.rs"]
 mod guards;
 
+use expected::check_number;
 use guards::{in_guards, GUARD as AROUND};
 use reference::cast::{self, Column, FirstHit, FullCast};
 use reference::field::{Bounds, Ray, SpanBounds};
@@ -23,14 +26,9 @@ const GUARD: i64 = 0x5a5a_5a5a_5a5a_5a5a;
 pub fn check(file: &[u8]) -> Result<(u32, u32), u32> {
     let copy = file.to_vec();
     let number = entries::check(&copy);
-    let answer = part::check(file);
-    let expected = match answer {
-        Ok((nodes, iso)) => (1 << 32) + (u64::from(nodes) << 16) + u64::from(iso),
-        Err(number) => u64::from(number),
-    };
-    assert_eq!(number, expected, "{file:?}");
+    assert_eq!(number, check_number(file), "{file:?}");
     assert_eq!(copy, file);
-    answer
+    part::check(file)
 }
 
 /// The bounds at a place.

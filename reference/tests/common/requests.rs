@@ -59,9 +59,9 @@ pub fn place(random: &mut SplitMix64, part: &Part) -> [i32; 3] {
     at
 }
 
-/// The operators of a part, or that it has none.
+/// The operators of a part, or that it has none, and its degree.
 #[allow(dead_code)]
-pub fn operators(part: &Part) -> Vec<String> {
+pub fn operators_and_degree(part: &Part) -> Vec<String> {
     let mut kinds: Vec<String> = part
         .nodes
         .iter()
@@ -70,6 +70,7 @@ pub fn operators(part: &Part) -> Vec<String> {
         .collect();
     kinds.sort();
     kinds.dedup();
+    kinds.push(format!("{:?}", part.degree));
     kinds
 }
 

@@ -9,7 +9,7 @@ use reference::cast::{bounds_at, column_by, first_hit_by, full_cast_by};
 use reference::cast::{Column, FirstHit, FullCast};
 use reference::field::{Bounds, ExactField, Ray};
 use reference::march::marching_cast_by;
-use reference::part;
+use reference::part::{self, Part};
 use reference::totals::Totals;
 use reference::view::{viewer_first_hit_by, ViewRay, ViewerHit};
 
@@ -146,15 +146,18 @@ impl Host {
 
 /// A check of a file: its node count and iso-value.
 pub fn check(file: &[u8]) -> Result<(u32, u32), u32> {
-    let answer = part::check(file);
-    let expected = match answer {
-        Ok((nodes, iso)) => 4_294_967_296 + u64::from(nodes) * 65_536 + u64::from(iso),
-        Err(number) => u64::from(number),
+    let answer = part::read(file);
+    let expected = match &answer {
+        Ok(Part { iso, degree, nodes }) => {
+            let [iso, version] = [*iso, degree.version()].map(u64::from);
+            version * 4_294_967_296 + nodes.len() as u64 * 65_536 + iso
+        }
+        Err(number) => u64::from(*number),
     };
     let copy = file.to_vec();
     assert_eq!(entries::check(&copy), expected, "{file:?}");
     assert_eq!(copy, file);
-    answer
+    part::check(file)
 }
 
 /// The bounds at a place.

@@ -2,7 +2,7 @@
 //! answers, and for each kind of part cast at.
 
 use reference::cast::{Column, FirstHit, FullCast, Mark};
-use reference::part::{Kind, Node, Part};
+use reference::part::{Degree, Kind, Node, Part};
 use reference::view::ViewerHit;
 use std::collections::BTreeMap;
 
@@ -43,7 +43,7 @@ const CLASSES: [(&str, &[&str], u32); 18] = [
         ],
         80,
     ),
-    ("part", &["negative weight"], 1_500),
+    ("part", &["negative weight", "degree 4", "degree 6"], 1_500),
     ("part", &["511 records"], 20),
     ("no length", &["full cast", "viewer"], 90),
 ];
@@ -177,6 +177,8 @@ impl Coverage {
             ("one point", part.nodes.len() == 1),
             ("several points", part.nodes.len() > 1),
             ("negative weight", negative),
+            ("degree 4", part.degree == Degree::Four),
+            ("degree 6", part.degree == Degree::Six),
             ("sum", in_a_row(part, &[Kind::Sum])),
             ("greater", in_a_row(part, &[Kind::Greater])),
             ("lesser", in_a_row(part, &[Kind::Lesser])),

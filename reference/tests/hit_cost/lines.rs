@@ -3,7 +3,7 @@
 //! that is not empty is each of its ticks in turn.
 
 use crate::promises::Scene;
-use crate::requests::{operators, GROUPS};
+use crate::requests::{operators_and_degree, GROUPS};
 use reference::cast::{first_hit, judge, FirstHit, Mark, TICKS};
 use reference::field::{tick_bounds, Ray};
 use reference::generate::{bored, cancelling, part_of_form, SplitMix64, FORMS};
@@ -95,7 +95,7 @@ impl Line {
 
     /// Its stretch, and the operators of its part.
     pub fn classes(&self) -> Vec<String> {
-        let mut classes = operators(&self.part);
+        let mut classes = operators_and_degree(&self.part);
         classes.push(format!("{:?}", self.stretch));
         classes
     }

@@ -4,7 +4,7 @@
 use crate::calls::Host;
 use crate::lines::part;
 use crate::promises::Scene;
-use crate::requests::operators;
+use crate::requests::operators_and_degree;
 use reference::cast::{judge_tick, FirstHit, Mark};
 use reference::field::Ray;
 use reference::generate::{self, SplitMix64, Style, STYLES};
@@ -63,13 +63,13 @@ fn cost_exactly_11() {
             compare(&mut exact, &scene);
         }
         let ends = [format!("{style:?}")];
-        for class in operators(&scene.part).into_iter().chain(ends) {
+        for class in operators_and_degree(&scene.part).into_iter().chain(ends) {
             *classes.entry(class).or_default() += 1;
         }
     }
     let calls = hosts.iter().map(Host::calls).sum::<u64>();
     println!("{calls} calls, by the fractions {}", exact.calls());
     println!("{classes:?}");
-    assert_eq!(classes.len(), 5 + STYLES.len());
+    assert_eq!(classes.len(), 5 + 2 + STYLES.len());
     assert!(classes.values().all(|&n| n >= 200));
 }

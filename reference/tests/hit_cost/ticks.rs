@@ -3,7 +3,7 @@
 use crate::calls::Host;
 use crate::lines::{lines, STRETCHES};
 use crate::promises::{figure, Scene};
-use crate::requests::operators;
+use crate::requests::operators_and_degree;
 use crate::seen::Seen;
 use crate::worst::{self, fewest, most};
 use reference::cast::{FirstHit, Mark};
@@ -59,7 +59,7 @@ fn generated_lines() {
     seen.print("generated lines", hosts.iter().map(Host::calls).sum());
     println!("rays by the fractions: {exact}");
     assert!(seen.hits()[0] >= 12 && exact >= 300);
-    assert_eq!(seen.classes.len(), 5 + STRETCHES.len());
+    assert_eq!(seen.classes.len(), 5 + 2 + STRETCHES.len());
     assert!(seen.classes.values().all(|&n| n >= 500));
 }
 
@@ -72,7 +72,7 @@ fn the_most_probes() {
         assert_eq!(scene.first, Some((h, Mark::Crossing)));
         let probes = compare(&mut host, scene);
         assert_eq!(probes, most(h), "{scene:?}");
-        seen.count(h, probes, &operators(&scene.part));
+        seen.count(h, probes, &operators_and_degree(&scene.part));
         if h % 128 == h / 128 {
             compare_exactly(scene);
         }

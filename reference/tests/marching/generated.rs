@@ -98,7 +98,7 @@ fn assert_populated(coverage: &Coverage, share: u32) {
         undecided,
         other_count,
     } = coverage.cuts;
-    assert!(all(&[cut], 6_000) && all(&[undecided, other_count], 600));
+    assert!(all(&[cut], 6_000) && all(&[undecided, other_count], 500));
 }
 
 #[test]

@@ -5,7 +5,7 @@
 //! asserted.
 
 use crate::calls::Host;
-use crate::requests::{operators, GROUPS};
+use crate::requests::{operators_and_degree, GROUPS};
 use crate::scenes::Scene;
 use reference::cast::{full_cast, Mark};
 use reference::field::Ray;
@@ -159,7 +159,7 @@ impl Seen {
         if scene.mark == Mark::Crossing {
             self.bits[usize::from(scene.solid())] += 1;
         }
-        let mut classes = operators(&scene.part);
+        let mut classes = operators_and_degree(&scene.part);
         classes.push(kind.to_string());
         if scene.part.nodes.iter().any(|node| node.w < 0) {
             classes.push("negative weight".to_string());
@@ -174,10 +174,12 @@ impl Seen {
         let of = |class: &str, least: u32| all(&self.classes[class], least);
         assert!(all(&self.marks, 600) && all(&self.bits, 100), "{self:?}");
         let operators = ["Sum", "Greater", "Lesser", "Cut", "negative weight"];
-        assert!(operators.iter().all(|class| of(class, 80)), "{self:?}");
+        let degrees = ["Four", "Six"];
+        let mut often = operators.iter().chain(&degrees);
+        assert!(often.all(|class| of(class, 80)), "{self:?}");
         let kinds = ["Point", "drawn", "cancelling", "bored", "example"];
         assert!(kinds.iter().all(|class| of(class, 10)), "{self:?}");
-        assert_eq!(self.classes.len(), 5 + 5 + 1, "{self:?}");
+        assert_eq!(self.classes.len(), 5 + 2 + 5 + 1, "{self:?}");
     }
 }
 

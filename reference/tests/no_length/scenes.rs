@@ -89,12 +89,12 @@ impl Scene {
 
     /// The exact field at the place, with S equal to 0: below iso if the ticks are
     /// empty, at least iso if they are inside, else no farther from it than the sum of
-    /// |w|/16384.
+    /// |w|/16384, or 7|w|/65536 for degree 6.
     fn assert_accurate(&self) {
         let field = field_at(&self.part, &whole_place(self.ray.a)).expect("a tree");
         let iso = Fraction::from(i64::from(self.part.iso));
-        let most = rounding(&self.part.nodes);
-        assert_eq!(tolerance(&self.part.nodes, &self.ray), most);
+        let most = rounding(&self.part);
+        assert_eq!(tolerance(&self.part, &self.ray), most);
         let right = match self.mark {
             Mark::Empty => field < iso,
             Mark::Crossing => (&field - &iso).abs() <= most.expect("a tree"),

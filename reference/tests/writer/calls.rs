@@ -8,14 +8,17 @@ use crate::expected::{read_number, write_number};
 use crate::guards::{in_guards, GUARD};
 use reference::write::{self, MOST_NUMBERS, NODE_NUMBERS};
 
+/// A write of numbers, an iso-value and a version, into a buffer from a place on.
+type Write = fn(&[i32], u32, u32, &mut [u8], usize) -> u32;
+
 /// A write into a buffer with these contents: its bytes up to the place
 /// answered, or the refusal number. Of a write that is not refused, what was
 /// written is read back.
 pub fn write(drawing: &Drawing, contents: &[u8], place: usize) -> Result<Vec<u8>, u32> {
     let given = drawing.clone();
-    let filled = |buffer: &mut [u8], call: fn(&[i32], u32, &mut [u8], usize) -> u32| {
+    let filled = |buffer: &mut [u8], call: Write| {
         buffer.copy_from_slice(contents);
-        call(&given.numbers, given.iso, buffer, place)
+        call(&given.numbers, given.iso, given.version, buffer, place)
     };
     let (number, bytes) = in_guards(contents.len(), |b| filled(b, entries::write));
     let (right, expected) = in_guards(contents.len(), |b| filled(b, write_number));
@@ -38,7 +41,8 @@ pub fn write(drawing: &Drawing, contents: &[u8], place: usize) -> Result<Vec<u8>
 /// was given.
 fn assert_read_back(drawing: &Drawing, file: &[u8]) {
     let nodes = drawing.numbers.len() / NODE_NUMBERS;
-    let number = (1 << 32) + (nodes << 16) as u64 + u64::from(drawing.iso);
+    let version = u64::from(drawing.version);
+    let number = (version << 32) + (nodes << 16) as u64 + u64::from(drawing.iso);
     assert_eq!(entries::check(file), number);
     let (found, numbers) = in_guard_numbers(|n| entries::read(file, n));
     let (_, expected) =
@@ -53,8 +57,10 @@ fn assert_written_again(drawing: &Drawing, file: &[u8]) {
     let mut numbers = [0; MOST_NUMBERS];
     let number = entries::read(file, &mut numbers);
     let (nodes, iso) = ((number >> 16) as usize & 0xffff, number as u32 & 0xffff);
+    let version = (number >> 32) as u32;
     let mut again = vec![0xee; file.len()];
-    let end = entries::write(&numbers[..NODE_NUMBERS * nodes], iso, &mut again, 0);
+    let given = &numbers[..NODE_NUMBERS * nodes];
+    let end = entries::write(given, iso, version, &mut again, 0);
     assert_eq!(end as usize, 65_536 + file.len());
     assert!(again == file, "{drawing:?}");
 }
@@ -69,9 +75,9 @@ fn in_guard_numbers<T>(call: impl FnOnce(&mut [i32; MOST_NUMBERS]) -> T) -> (T, 
     (answer, numbers)
 }
 
-/// A read of a file: its iso-value and its nodes' numbers, or the refusal
-/// number.
-pub fn read(file: &[u8]) -> Result<(u16, Vec<i32>), u32> {
+/// A read of a file: its iso-value, its version and its nodes' numbers, or the
+/// refusal number.
+pub fn read(file: &[u8]) -> Result<(u16, u16, Vec<i32>), u32> {
     let copy = file.to_vec();
     let (number, found) = in_guard_numbers(|n| entries::read(&copy, n));
     let (right, expected) = in_guard_numbers(|n| read_number(file, n));

@@ -17,7 +17,8 @@ use std::collections::BTreeMap;
 const DRAWINGS: usize = 20_000;
 
 /// Classes, and how often each must have come at least.
-const CLASSES: [(&str, u32); 20] = [
+const CLASSES: [(&str, u32); 23] = [
+    ("refused 3", 500),
     ("refused 5", 500),
     ("refused 6", 500),
     ("refused 7", 500),
@@ -32,6 +33,8 @@ const CLASSES: [(&str, u32); 20] = [
     ("written to the buffer's end", 1_500),
     ("written to byte 65,536", 400),
     ("written, damaged", 400),
+    ("written with version 1", 3_000),
+    ("written with version 2", 3_000),
     ("511 nodes written", 50),
     ("over one byte repeated", 500),
     ("over random bytes", 500),
@@ -87,7 +90,7 @@ fn contents(random: &mut SplitMix64, kind: usize, drawing: &Drawing, room: usize
 /// The archive's column of the bytes written is the reference's of a file that
 /// the builder makes of the nodes.
 fn assert_cast(random: &mut SplitMix64, drawing: &Drawing, written: &[u8]) {
-    let file = write::encode(&drawing.numbers, drawing.iso).expect("accepted");
+    let file = write::encode(&drawing.numbers, drawing.iso, drawing.version).expect("accepted");
     let part = part::read(&file).expect("accepted");
     let ray = ray(random, &part);
     let (mut found, mut right) = ([9; 128], [9; 128]);
@@ -133,6 +136,7 @@ fn generated_drawings() {
         };
         count_written(&mut coverage, &drawing, room, place);
         coverage.count(format!("over {}", CONTENTS[kind]));
+        coverage.count(format!("written with version {}", drawing.version));
         if drawing != whole {
             coverage.count("written, damaged");
         }

@@ -1,4 +1,4 @@
-//! Questions 16 and 5 to 11 of the writer, each on both sides of its limits.
+//! Questions 16, 3 and 5 to 11 of the writer, each on both sides of its limits.
 
 use crate::calls::write;
 use crate::drawings::{operator, Drawing, Six, NUMBERS, POINT};
@@ -32,6 +32,7 @@ fn summed(count: usize) -> Drawing {
     Drawing {
         numbers: numbers.take(count).collect(),
         iso: 1,
+        version: 1,
     }
 }
 
@@ -56,10 +57,25 @@ fn question_16_number_count() {
 }
 
 #[test]
+fn question_3_version() {
+    let with_version = |version| {
+        let whole = Drawing::of(&[POINT]);
+        refusal(&Drawing { version, ..whole })
+    };
+    // some have the lower 8, 16 or 24 bits of 1 or 2
+    let high = [1 << 16, 1 << 24, 1 << 31, 1 << 8, u32::MAX - 3];
+    let wide = high.into_iter().flat_map(|high| high - 1..=high + 3);
+    for version in (0..=70_000).chain(wide) {
+        let expected = if [1, 2].contains(&version) { 0 } else { 3 };
+        assert_eq!(with_version(version), expected, "{version}");
+    }
+}
+
+#[test]
 fn question_5_iso() {
     let with_iso = |iso| {
-        let numbers = POINT.to_vec();
-        refusal(&Drawing { numbers, iso })
+        let whole = Drawing::of(&[POINT]);
+        refusal(&Drawing { iso, ..whole })
     };
     for iso in 0..=70_000 {
         let expected = if (1..=4096).contains(&iso) { 0 } else { 5 };
@@ -106,7 +122,7 @@ fn question_7_an_operators_other_numbers() {
 /// The refusal number of one node, by the archive alone.
 fn of_node(six: Six) -> u32 {
     let mut buffer = [0; 24];
-    match entries::write(&six, 1, &mut buffer, 0) {
+    match entries::write(&six, 1, 1, &mut buffer, 0) {
         65_560 => 0,
         number => number,
     }
@@ -192,9 +208,10 @@ fn the_bytes_of_a_point() {
     let drawing = Drawing {
         numbers: vec![1, 1024, -2047, 2047, -1, -4096],
         iso: 4096,
+        version: 2,
     };
     let bytes = [
-        1, 0, 0, 4, 1, 0xf8, 0xff, 7, 0xff, 0xff, 0, 0xf0, 0, 16, 1, 0, 24, 0, 0, 0, 0x54, 0x52,
+        1, 0, 0, 4, 1, 0xf8, 0xff, 7, 0xff, 0xff, 0, 0xf0, 0, 16, 2, 0, 24, 0, 0, 0, 0x54, 0x52,
         0x45, 0x45,
     ];
     assert_eq!(write(&drawing, &[9; 24], 0), Ok(bytes.to_vec()));

@@ -1,10 +1,10 @@
-//! The order of the writer's questions: 16, 5, of each node 6 to 10, 11, 17.
+//! The order of the writer's questions: 16, 3, 5, of each node 6 to 10, 11, 17.
 
 use crate::calls::write;
 use crate::drawings::{fault, operator, Drawing, Six, POINT};
 
 /// The questions in order.
-const QUESTIONS: [u32; 9] = [16, 5, 6, 7, 8, 9, 10, 11, 17];
+const QUESTIONS: [u32; 10] = [16, 3, 5, 6, 7, 8, 9, 10, 11, 17];
 
 /// Two points and their sum.
 fn whole() -> Drawing {

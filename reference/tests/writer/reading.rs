@@ -20,7 +20,9 @@ fn numbers_of_a_worked_file() {
     let numbers = [first, second, [3, 0, 0, 0, 0, 0]].concat();
     for leading in [0, 1, 11, 12, 36, 65_536 - 48] {
         let file = two_points().leading(&vec![1; leading]).build();
-        assert_eq!(read(&file), Ok((4096, numbers.clone())));
+        assert_eq!(read(&file), Ok((4096, 1, numbers.clone())));
+        let file = two_points().version(2).leading(&vec![1; leading]).build();
+        assert_eq!(read(&file), Ok((4096, 2, numbers.clone())));
     }
 }
 
@@ -30,7 +32,7 @@ fn lengths() {
     for length in 0..24 {
         assert_eq!(read(&k[24 - length..]), Err(1));
     }
-    assert_eq!(read(&k), Ok((1, vec![1, 512, 0, 0, 0, 4])));
+    assert_eq!(read(&k), Ok((1, 1, vec![1, 512, 0, 0, 0, 4])));
     let long = two_points().leading(&[1; 65_536 - 47]);
     assert_eq!(read(&long.build()), Err(1));
 }
@@ -47,8 +49,8 @@ fn each_refusal() {
 fn the_most_nodes() {
     let join = |b: FileBuilder, i: i16| b.point(1 + i as u16, [i, -i, 2 * i], -i).cut();
     let most = (0..255).fold(FileBuilder::new(9).point(7, [1, 2, 3], 4), join);
-    let (iso, numbers) = read(&most.build()).expect("accepted");
-    assert_eq!((iso, numbers.len()), (9, 3066));
+    let (iso, version, numbers) = read(&most.build()).expect("accepted");
+    assert_eq!((iso, version, numbers.len()), (9, 1, 3066));
     assert_eq!(
         numbers[3054..],
         [1, 255, 254, -254, 508, -254, 5, 0, 0, 0, 0, 0]

@@ -18,10 +18,11 @@ fn leading(count: usize) -> Vec<u8> {
 /// from the first record on, after the same leading bytes the whole file.
 fn assert_round_trip(file: &[u8], leading: &[u8]) {
     let with_leading = [leading, file].concat();
-    let (iso, numbers) = read(&with_leading).expect("accepted");
+    let (iso, version, numbers) = read(&with_leading).expect("accepted");
     let drawing = Drawing {
         numbers,
         iso: iso.into(),
+        version: version.into(),
     };
     let written = write(&drawing, &vec![0xc3; file.len() + 40], 0);
     assert_eq!(written.as_deref(), Ok(file));
