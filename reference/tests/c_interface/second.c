@@ -3,7 +3,7 @@
 #include "fenalukki.h"
 #include "fenalukki.h"
 
-#if FENALUKKI_VERSION_NUMBER < 40000 || FENALUKKI_REFUSED_SAVED != FENALUKKI_REFUSALS
+#if FENALUKKI_VERSION_NUMBER < 50000 || FENALUKKI_REFUSED_SAVED != FENALUKKI_REFUSALS
 #error "names of fenalukki.h do not agree"
 #endif
 
