@@ -15,6 +15,14 @@
 #error "fenalukki.h has a name for 13, which is not given"
 #endif
 
+#ifdef FENALUKKI_FILE_VERSION
+#error "fenalukki.h has a name for the one version of a file, which has two"
+#endif
+
+#if FENALUKKI_FILE_VERSION_DEGREE_4 != 1 || FENALUKKI_FILE_VERSION_DEGREE_6 != 2
+#error "names of the versions of a file do not agree"
+#endif
+
 enum { MARKS = FENALUKKI_MARKS_BYTES };
 
 static const int64_t most_field = FENALUKKI_WEIGHT_MAX * FENALUKKI_BOUNDS_ONE;
