@@ -542,23 +542,26 @@ fn parts_of_both_versions(name: &str) -> Vec<PathBuf> {
     both.concat()
 }
 
-/// Where a middle is a whole step, a host can work out a column's bit from the mark and the bounds at that place.
+/// Where a middle is a whole step, a host can work out a column's bit from the mark and the bounds at that place. Of degree 6 the pad is below
+/// its iso-value on all these rays.
 #[test]
 fn bits_by_marks_and_bounds() {
     let parts = parts_of_both_versions("columns_softer");
     let output = columns("columns_of_parts", &parts);
     assert_eq!(output.lines().count(), parts.len());
     for (line, part) in output.lines().zip(&parts) {
+        let is_empty = part.ends_with("columns_softer/pad.part");
         let part = part.display();
         let numbers = line.split(' ').skip(1).step_by(2).map(str::parse);
         let numbers: Vec<u32> = numbers.map(|number| number.expect("a number")).collect();
         let [crossing, solid, wrong] = numbers[..] else {
             panic!("{part}: {line}");
         };
-        assert!(
-            0 < solid && solid < crossing && wrong == 0,
-            "{part}: {line}"
-        );
+        let right = match is_empty {
+            true => crossing == 0,
+            false => 0 < solid && solid < crossing,
+        };
+        assert!(right && wrong == 0, "{part}: {line}");
     }
 }
 
@@ -928,7 +931,7 @@ fn versions(name: &str, parts: &[PathBuf]) -> String {
 /// A write asks 16, then 3, then 5 to 11, then 17, and takes all bits of the version.
 #[test]
 fn the_version_of_a_write() {
-    let lines = versions("versions", &[]);
+    let lines = versions("versions_written", &[]);
     let mut accepted = Vec::new();
     for line in lines.lines() {
         let (version, numbers) = line.split_once(": ").expect("two");
