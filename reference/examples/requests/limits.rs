@@ -115,8 +115,8 @@ fn trailers() -> Files {
         mark[i] ^= 1;
         files.push(and_whole(whole().mark(mark)));
     }
-    for version in [0, 2, 257] {
-        files.push(and_whole(whole().version(version)));
+    for pair in [[1, 0], [2, 3], [1, 257], [2, 258]] {
+        files.push(pair.map(|version| whole().version(version).build()));
     }
     for pair in [[1, 0], [4096, 4097]] {
         files.push(pair.map(|iso| whole().iso(iso).build()));
