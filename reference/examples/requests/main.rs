@@ -1,7 +1,8 @@
 //! A stream of requests with the reference's answers, for `robust/replay.c`:
 //! those at the limits of the questions, casts of the most probes, columns at the
 //! limits of the rule for their middles, first hits at the figure of their probes,
-//! rays whose ends coincide or are a step apart, then N on damaged files, drawings
+//! rays whose ends coincide or are a step apart, those with a wrong version and one
+//! fault more, then N on damaged files, drawings
 //! and saved records, and one on a whole file, drawing or record after each seven
 //! of them.
 //!
@@ -53,6 +54,7 @@ mod limits;
 mod longest;
 mod look;
 mod middles;
+mod orders;
 mod reached;
 mod request;
 #[path = "../../tests/common/requests.rs"]
@@ -69,6 +71,7 @@ use ends::ends;
 use hits::hits;
 use longest::longest;
 use middles::middles;
+use orders::orders;
 use reached::Reached;
 use reference::generate::SplitMix64;
 use request::Request;
@@ -119,7 +122,8 @@ impl<W: Write> Stream<W> {
 
     /// Every request of the stream.
     fn put_all(&mut self, random: &mut SplitMix64, damaged: u64) -> io::Result<()> {
-        let first = [limits::at_limits, longest, middles, hits, ends].map(|made| made(random));
+        let first = [limits::at_limits, longest, middles, hits, ends, orders];
+        let first = first.map(|made| made(random));
         let mut first = first.iter().flatten();
         first.try_for_each(|request| self.put(request))?;
         for i in 1..=damaged {
