@@ -1,8 +1,8 @@
 /* A tour of fenalukki.h: writes a part of three points, makes each of the
  * fifteen calls, plans a viewer's budgets, asks about places by rays, has the
- * points joined by other operators, and each refusal number answered once. What
- * it prints is in tour.out. Lengths are in steps of 1/64 mm but for the viewer's,
- * which are in millimetres. */
+ * points joined by other operators and of the other degree, and each refusal
+ * number answered once. What it prints is in tour.out. Lengths are in steps of
+ * 1/64 mm but for the viewer's, which are in millimetres. */
 #include "fenalukki.h"
 
 #include <inttypes.h>
@@ -18,6 +18,7 @@ struct part {
 };
 
 enum { ISO = 768, NODES = 5, NUMBERS = NODES * FENALUKKI_NUMBERS_PER_NODE };
+enum { DEGREE_4 = FENALUKKI_FILE_VERSION_DEGREE_4, DEGREE_6 = FENALUKKI_FILE_VERSION_DEGREE_6 };
 
 /* Kind, r, x, y, z and w of each: two points that are summed to a bar, and a
  * ball, joined with it by an operator. */
@@ -30,9 +31,10 @@ static const int32_t bar_and_ball[NUMBERS] = {
 };
 
 /* A part whose numbers are refused has the length 0. */
-static void make_part(struct part *part, const int32_t *numbers)
+static void make_part(struct part *part, const int32_t *numbers, uint32_t version)
 {
-    uint32_t number = fenalukki_write(numbers, NUMBERS, ISO, part->bytes, sizeof part->bytes, 0);
+    uint32_t number = fenalukki_write(numbers, NUMBERS, ISO, version, part->bytes,
+                                      sizeof part->bytes, 0);
 
     part->length = fenalukki_end(number);
 }
@@ -89,7 +91,7 @@ static void show_part(const struct part *part)
     }
     print_bytes(part, trailer);
     printf("  trailer: iso %d, version %d, distance %lu\n", fenalukki_iso(number),
-           FENALUKKI_FILE_VERSION, (unsigned long)trailer + FENALUKKI_TRAILER_BYTES);
+           fenalukki_file_version(number), (unsigned long)trailer + FENALUKKI_TRAILER_BYTES);
 }
 
 /* 2. The check of a file. Returns 1 if it passes. */
@@ -101,12 +103,14 @@ static int show_check(const struct part *part)
     printf("\n2. Check: ");
     if (is_refused(number))
         return 0;
-    printf("%d nodes, iso %d\n", fenalukki_nodes(number), fenalukki_iso(number));
+    printf("%d nodes, iso %d, version %d\n", fenalukki_nodes(number), fenalukki_iso(number),
+           fenalukki_file_version(number));
     return 1;
 }
 
-/* 3. Writes of what is read, at several places of a larger buffer. Bytes before
- * the place are no part of the tree, and none but the file's own is written. */
+/* 3. Writes of what is read, at several places of a larger buffer and as other
+ * versions. Bytes before the place are no part of the tree, and none but the file's
+ * own is written. */
 
 enum { ROOM = 80, FILLING = 0xee };
 
@@ -128,24 +132,36 @@ static void print_written(const uint8_t *buffer, size_t end, const int32_t *numb
 
     if (is_refused(number))
         return;
-    printf("ends at %lu, %d nodes, iso %d, numbers %s", (unsigned long)end,
-           fenalukki_nodes(number), fenalukki_iso(number),
+    printf("ends at %lu, %d nodes, iso %d, version %d, numbers %s", (unsigned long)end,
+           fenalukki_nodes(number), fenalukki_iso(number), fenalukki_file_version(number),
            memcmp(numbers, again, NUMBERS * sizeof *numbers) == 0 ? "as given\n" : "changed\n");
 }
 
-static void print_write(const struct part *part, const int32_t *numbers, size_t place)
+/* How many bytes from a place on are other than the part's. */
+static int count_others(const uint8_t *bytes, const struct part *part)
+{
+    int count = 0;
+    size_t i;
+
+    for (i = 0; i < part->length; i++)
+        count += bytes[i] != part->bytes[i];
+    return count;
+}
+
+static void print_write(const struct part *part, const int32_t *numbers, uint32_t version,
+                        size_t place)
 {
     uint8_t buffer[ROOM];
     uint32_t number;
 
     memset(buffer, FILLING, ROOM);
-    number = fenalukki_write(numbers, NUMBERS, ISO, buffer, ROOM, place);
-    printf("place %lu: ", (unsigned long)place);
+    number = fenalukki_write(numbers, NUMBERS, ISO, version, buffer, ROOM, place);
+    printf("version %lu, place %lu: ", (unsigned long)version, (unsigned long)place);
     if (!is_refused(number))
         print_written(buffer, fenalukki_end(number), numbers);
     printf("  %d bytes not written", count_filling(buffer));
-    if (!fenalukki_refusal(number) && memcmp(buffer + place, part->bytes, part->length) == 0)
-        printf(", the others as in 1");
+    if (!fenalukki_refusal(number))
+        printf(", %d of the others not as in 1", count_others(buffer + place, part));
     printf("\n");
 }
 
@@ -156,10 +172,13 @@ static void show_writes(const struct part *part)
     printf("\n3. Writes of what is read, into %d bytes\n", ROOM);
     if (is_refused(fenalukki_read(part->bytes, part->length, numbers)))
         return;
-    print_write(part, numbers, 0);
-    print_write(part, numbers, 4);
-    print_write(part, numbers, 8);
-    print_write(part, numbers, 9);
+    print_write(part, numbers, DEGREE_4, 0);
+    print_write(part, numbers, DEGREE_4, 4);
+    print_write(part, numbers, DEGREE_4, 8);
+    print_write(part, numbers, DEGREE_4, 9);
+    print_write(part, numbers, DEGREE_6, 8);
+    print_write(part, numbers, DEGREE_4 - 1, 8);
+    print_write(part, numbers, DEGREE_6 + 1, 8);
 }
 
 /* 4. A plane of 64 columns, cast downwards, 32 steps from one to the next. A
@@ -459,7 +478,7 @@ static void show_views(const struct part *part)
 static void make_k(struct part *k)
 {
     static const int32_t ball[FENALUKKI_NUMBERS_PER_NODE] = {FENALUKKI_KIND_POINT, 512, 0, 0, 0, 4};
-    uint32_t number = fenalukki_write(ball, FENALUKKI_NUMBERS_PER_NODE, 1, k->bytes,
+    uint32_t number = fenalukki_write(ball, FENALUKKI_NUMBERS_PER_NODE, 1, DEGREE_4, k->bytes,
                                       sizeof k->bytes, 0);
 
     k->length = fenalukki_end(number);
@@ -557,7 +576,7 @@ static void print_overlap(int kind)
     memcpy(numbers, bar_and_ball, sizeof numbers);
     numbers[3 * FENALUKKI_NUMBERS_PER_NODE + FENALUKKI_NODE_Y] = 0;
     numbers[4 * FENALUKKI_NUMBERS_PER_NODE + FENALUKKI_NODE_KIND] = kind;
-    make_part(&part, numbers);
+    make_part(&part, numbers, DEGREE_4);
     printf("%s, the plane z 0: ", kind_word(kind));
     print_plane(&part, FIRST_LINE, AFTER_LINE);
     print_bounds(&part, 0, -256, 0);
@@ -571,7 +590,38 @@ static void show_overlaps(void)
     print_overlap(FENALUKKI_KIND_LESSER);
 }
 
-/* 13. Counted calls: three totals that each call adds to. */
+/* 13. The bar and the ball of degree 4 and of degree 6: the numbers are the same, the
+ * version is another. But at its centre a point's field is smaller in degree 6, and so
+ * the solid is smaller. */
+
+static void print_version(const struct part *part, int version)
+{
+    printf("version %d, ", version);
+    print_bounds(part, 0, -256, 0);
+    printf("version %d, ", version);
+    print_bounds(part, 0, 400, 64);
+    printf("version %d, ", version);
+    print_hit_on(part, -1024, -256, FENALUKKI_ENOUGH);
+    printf("version %d, ", version);
+    print_cast(part, top, bottom, FENALUKKI_ENOUGH);
+    printf("version %d, ", version);
+    print_column(part, top, bottom);
+}
+
+/* The plane of version 1 is in 4. */
+static void show_versions(const struct part *part)
+{
+    static struct part softer;
+
+    printf("\n13. The same part as version 1, of degree 4, and as version 2, of degree 6\n");
+    print_version(part, DEGREE_4);
+    make_part(&softer, bar_and_ball, DEGREE_6);
+    print_version(&softer, DEGREE_6);
+    printf("version %d, the plane z 0: ", DEGREE_6);
+    print_plane(&softer, 4, 24); /* y from 768 down to -512 */
+}
+
+/* 14. Counted calls: three totals that each call adds to. */
 
 static void print_totals(const char *after, const uint64_t totals[FENALUKKI_TOTALS])
 {
@@ -587,7 +637,7 @@ static void show_totals(const struct part *part)
     uint8_t marks[FENALUKKI_MARKS_BYTES], bits[FENALUKKI_COLUMN_BYTES];
     uint64_t totals[FENALUKKI_TOTALS] = {0, 0, 0};
 
-    printf("\n13. Running totals\n");
+    printf("\n14. Running totals\n");
     fenalukki_full_cast_counted(file, length, 0, 1024, 0, 0, -1024, 0, 30, marks, sizeof marks,
                                 totals);
     print_totals("a full cast with budget 30", totals);
@@ -609,7 +659,7 @@ static void show_totals(const struct part *part)
     print_totals("a column, with probes near the ceiling", totals);
 }
 
-/* 14. A saved record, read into the totals: its probes are at the ceiling of 32
+/* 15. A saved record, read into the totals: its probes are at the ceiling of 32
  * bits, and the column after it counts on from there. */
 
 static const uint8_t saved[FENALUKKI_SAVED_BYTES] = {
@@ -631,7 +681,7 @@ static void show_restore(const struct part *part)
     uint8_t bits[FENALUKKI_COLUMN_BYTES];
     uint64_t totals[FENALUKKI_TOTALS] = {0, 0, 0};
 
-    printf("\n14. A saved record\n");
+    printf("\n15. A saved record\n");
     print_restore(FENALUKKI_SAVED_BYTES, totals);
     fenalukki_column_counted(part->bytes, part->length, 0, 1024, 0, 0, -1024, 0, bits,
                              sizeof bits, totals);
@@ -639,7 +689,7 @@ static void show_restore(const struct part *part)
     print_restore(FENALUKKI_SAVED_BYTES - 1, totals);
 }
 
-/* 15. Every refusal. 13 is not given. */
+/* 16. Every refusal. 13 is not given. */
 
 /* 1 to 4 by a file that has one fault. */
 static uint64_t refused_file(struct part part, int number)
@@ -654,7 +704,7 @@ static uint64_t refused_file(struct part part, int number)
         trailer[11] = 0;
         break;
     case FENALUKKI_REFUSED_VERSION:
-        trailer[2] = FENALUKKI_FILE_VERSION + 1;
+        trailer[2] = DEGREE_6 + 1;
         break;
     case FENALUKKI_REFUSED_DISTANCE:
         trailer[4] += FENALUKKI_RECORD_BYTES;
@@ -667,7 +717,7 @@ static uint32_t write_numbers(const int32_t *numbers, size_t count, uint32_t iso
 {
     static uint8_t buffer[FENALUKKI_WRITE_BYTES_MAX];
 
-    return fenalukki_write(numbers, count, iso, buffer, sizeof buffer, 0);
+    return fenalukki_write(numbers, count, iso, DEGREE_4, buffer, sizeof buffer, 0);
 }
 
 static uint32_t write_points(size_t count)
@@ -719,7 +769,7 @@ static uint32_t refused_write(int number)
     case FENALUKKI_REFUSED_NUMBERS:
         return write_numbers(bar_and_ball, NUMBERS - 1, ISO);
     case FENALUKKI_REFUSED_WRITE_ROOM:
-        return fenalukki_write(bar_and_ball, NUMBERS, ISO, buffer, sizeof buffer, 0);
+        return fenalukki_write(bar_and_ball, NUMBERS, ISO, DEGREE_4, buffer, sizeof buffer, 0);
     default:
         return refused_node(number);
     }
@@ -755,7 +805,7 @@ static void show_refusals(const struct part *part)
 {
     int number;
 
-    printf("\n15. Refusals\n");
+    printf("\n16. Refusals\n");
     for (number = 1; number <= FENALUKKI_REFUSALS; number++) {
         uint64_t answer;
 
@@ -771,7 +821,7 @@ int main(void)
     static struct part part, k;
 
     printf("Fenalukki %s\n\n", FENALUKKI_VERSION);
-    make_part(&part, bar_and_ball);
+    make_part(&part, bar_and_ball, DEGREE_4);
     show_part(&part);
     if (!show_check(&part))
         return 1;
@@ -786,6 +836,7 @@ int main(void)
     show_bounds(&part);
     show_places(&k);
     show_overlaps();
+    show_versions(&part);
     show_totals(&part);
     show_restore(&part);
     show_refusals(&part);

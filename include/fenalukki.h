@@ -4,14 +4,19 @@
  *
  * A part is a tree of soft points, handed over as the bytes of a part file.
  * The field of a point of weight w and radius r, at the distance d from its
- * centre, is w * (1 - d*d / (r*r))^2 where d < r and 0 elsewhere. An operator
- * joins two fields, an earlier and a later one, to one field: their sum, the
- * greater of them, the lesser of them, or a cut, which is the lesser of the
- * earlier and twice the iso-value minus the later. The part is solid where the
- * tree's field is at least the iso-value: greater joins two solids, lesser
- * leaves what both have in common, cut takes the later out of the earlier, and
- * sum blends them. Weight, iso-value and field have one unit. Lengths are whole
- * steps of 1/64 mm.
+ * centre, is where d < r
+ *
+ *   w * (1 - d*d / (r*r))^2   in a file of version 1, which is degree 4
+ *   w * (1 - d*d / (r*r))^3   in a file of version 2, which is degree 6
+ *
+ * and 0 elsewhere. All points of a file have its degree; degree 6 is the softer
+ * blend, flatter at the radius. An operator joins two fields, an earlier and a
+ * later one, to one field: their sum, the greater of them, the lesser of them,
+ * or a cut, which is the lesser of the earlier and twice the iso-value minus the
+ * later. The part is solid where the tree's field is at least the iso-value:
+ * greater joins two solids, lesser leaves what both have in common, cut takes
+ * the later out of the earlier, and sum blends them. Weight, iso-value and field
+ * have one unit. Lengths are whole steps of 1/64 mm.
  *
  * A ray runs from end A to end B and is cut into 1,024 equal ticks, 0 to 1,023;
  * tick t is the closed stretch from t/1024 to (t + 1)/1024 of the way. Each
@@ -19,13 +24,18 @@
  * place of the tick; if it is inside, at or above it at every place. If it is
  * crossing, neither is known, and at every place the field differs from the
  * iso-value by at most the sum, over the part's points, of the size of the
- * weight times (S/(256 r) + 1/16384), where S adds the sizes of the ray's three
- * coordinate differences and r is the point's radius, both in steps. The ends
- * may coincide: every tick is then that one place, and S is 0.
+ * weight times
+ *
+ *   S/(256 r) + 1/16384       in a file of version 1
+ *   3S/(512 r) + 7/65536      in a file of version 2
+ *
+ * where S adds the sizes of the ray's three coordinate differences and r is the
+ * point's radius, both in steps. The ends may coincide: every tick is then that
+ * one place, and S is 0.
  *
  * The fifteen entries
  *
- *   fenalukki_check                      a file's node count and iso-value
+ *   fenalukki_check                      a file's version, nodes and iso-value
  *   fenalukki_read                       the same, and the nodes' numbers
  *   fenalukki_write                      a part file from the nodes' numbers
  *   fenalukki_place_bounds               the field's bounds at a place
@@ -66,7 +76,7 @@
  *   record are ignored.
  *
  *     bytes 0-1    iso-value
- *     bytes 2-3    version: 1
+ *     bytes 2-3    version: 1 for degree 4, 2 for degree 6
  *     bytes 4-7    distance in bytes from the first record's first byte to the
  *                  file's end: 12 for each record and 12 for the trailer
  *     bytes 8-11   hexadecimal 54 52 45 45
@@ -88,6 +98,7 @@
  *                       many they are (not how many bytes)
  *   numbers             of a read: 3,066 numbers, six for each of 511 nodes
  *   iso                 of a write: the iso-value, any number
+ *   version             of a write: the file's version, any number
  *   buffer, buffer_len  of a write: the buffer that the file is written into
  *   place               of a write: the first record's offset in the buffer,
  *                       any number
@@ -131,7 +142,8 @@
  *   decides.
  *
  *     a check, a read             1 to 11
- *     a write                     16, then 5 to 11 of what is given, then 17
+ *     a write                     16, then 3, then 5 to 11 of what is given,
+ *                                 then 17
  *     bounds at a place           1 to 12
  *     a first hit                 1 to 12
  *     a full cast, a column       1 to 12, then 14
@@ -141,7 +153,7 @@
  *
  *    1  Is the file 24 to 65,536 bytes long?
  *    2  Are its last four bytes hexadecimal 54 52 45 45?
- *    3  Is the version 1?
+ *    3  Is the version 1 or 2?
  *    4  Is the distance back to the first record 24 to 6,144, a multiple of 12
  *       and no more than the file's length?
  *    5  Is the iso-value 1 to 4,096?
@@ -198,6 +210,16 @@
  *   column has no budget.
  *   docs/BENCHMARKS.md has the figures of other parts.
  *
+ * Coming from version 4
+ *
+ *   fenalukki_write takes the part file's version after the iso-value: pass
+ *   FENALUKKI_FILE_VERSION_DEGREE_4, which is 1, for the files of before. The name
+ *   FENALUKKI_FILE_VERSION is gone. A part file of version 2, which was refused
+ *   with 3, is read by every call. The number of its check or read is from 2 * 2^32
+ *   on: a host that takes 2^32 off such a number itself uses fenalukki_nodes,
+ *   fenalukki_iso and fenalukki_file_version. Nothing else changes: on a part file
+ *   of version 1 every call has version 4's answers.
+ *
  * Coming from version 3
  *
  *   A ray whose ends coincide is answered; version 3 refused it with 13. A host
@@ -205,8 +227,9 @@
  *   FENALUKKI_REFUSED_EQUAL_ENDS leaves the name out. A counted call on such a ray
  *   is a cast with its probes, no longer a refusal. Where the place is crossing, a
  *   full cast, a march or a column takes the most probes there are: for the place
- *   alone a first hit is enough. Nothing else changes: every ray whose ends differ
- *   has version 3's answers.
+ *   alone a first hit is enough. Writes and part files of version 2 change as from
+ *   version 4. Nothing else changes: every ray whose ends differ has version 3's
+ *   answers.
  *
  * Coming from version 2
  *
@@ -214,18 +237,19 @@
  *   was always 1. Parts come out up to a tick thinner at each face, and a strut
  *   thinner than a tick may have no bit. A host that took the bits for all that
  *   may be solid takes the ticks that a full cast does not mark empty. A ray
- *   whose ends coincide changes as from version 3. Nothing else changes: marks,
- *   probes, numbers and totals are version 2's.
+ *   whose ends coincide changes as from version 3, writes and part files of
+ *   version 2 as from version 4. Nothing else changes: marks, probes, numbers and
+ *   totals are version 2's.
  *
  * Coming from version 1
  *
- *   Columns change as from version 2, and a ray whose ends coincide as from
- *   version 3. A host that makes counted calls keeps, copies, prints and saves its
- *   totals as uint64_t, no longer as uint32_t, and is compiled again: a linker
- *   does not see the difference, and 24 bytes are written where 12 were lent. What
- *   version 1 saved is read by fenalukki_restore_totals; a host that saves its
- *   totals tells it from what it saves now, by the length for one. Nothing else
- *   changes.
+ *   Columns change as from version 2, a ray whose ends coincide as from version 3,
+ *   writes and part files of version 2 as from version 4. A host that makes counted
+ *   calls keeps, copies, prints and saves its totals as uint64_t, no longer as
+ *   uint32_t, and is compiled again: a linker does not see the difference, and 24
+ *   bytes are written where 12 were lent. What version 1 saved is read by
+ *   fenalukki_restore_totals; a host that saves its totals tells it from what it
+ *   saves now, by the length for one. Nothing else changes.
  *
  * Platform
  *
@@ -246,10 +270,10 @@
 
 /* The version of this header and of the archive beside it. The major number
  * changes where a host has to change, the minor where names are added. */
-#define FENALUKKI_VERSION_MAJOR 4
+#define FENALUKKI_VERSION_MAJOR 5
 #define FENALUKKI_VERSION_MINOR 0
 #define FENALUKKI_VERSION_PATCH 0
-#define FENALUKKI_VERSION "4.0.0"
+#define FENALUKKI_VERSION "5.0.0"
 #define FENALUKKI_VERSION_NUMBER \
     (FENALUKKI_VERSION_MAJOR * 10000 + FENALUKKI_VERSION_MINOR * 100 + FENALUKKI_VERSION_PATCH)
 
@@ -267,7 +291,8 @@
 /* The part file. */
 #define FENALUKKI_FILE_BYTES_MIN 24
 #define FENALUKKI_FILE_BYTES_MAX 65536
-#define FENALUKKI_FILE_VERSION 1
+#define FENALUKKI_FILE_VERSION_DEGREE_4 1
+#define FENALUKKI_FILE_VERSION_DEGREE_6 2
 #define FENALUKKI_RECORD_BYTES 12
 #define FENALUKKI_TRAILER_BYTES 12
 #define FENALUKKI_RECORDS_MAX 511
@@ -345,11 +370,12 @@ extern "C" {
 #endif
 
 /*
- * Check of a file: its node count and its iso-value.
+ * Check of a file: its version, its node count and its iso-value.
  *
  * Returns
- *   1 to 11                          the refusal number
- *   2^32 + nodes * 65,536 + iso      nodes is the count of records, 1 to 511
+ *   1 to 11                                  the refusal number
+ *   version * 2^32 + nodes * 65,536 + iso    version is 1 or 2, and nodes the
+ *                                            count of records, 1 to 511
  *
  * A file that passes is refused by no other call for its bytes.
  */
@@ -359,8 +385,9 @@ uint64_t fenalukki_check(const uint8_t *file, size_t file_len);
  * Read of a file: the check, and the numbers of its nodes.
  *
  * Returns what fenalukki_check returns:
- *   1 to 11                          the refusal number
- *   2^32 + nodes * 65,536 + iso      nodes is the count of records, 1 to 511
+ *   1 to 11                                  the refusal number
+ *   version * 2^32 + nodes * 65,536 + iso    version is 1 or 2, and nodes the
+ *                                            count of records, 1 to 511
  *
  * Unless refused, numbers[6 * i] to numbers[6 * i + 5] are the kind, r, x, y, z
  * and w of node i, for i from 0 to nodes - 1 in file order; an operator's last
@@ -371,13 +398,14 @@ uint64_t fenalukki_read(const uint8_t *file, size_t file_len,
 
 /*
  * Write of a part file: the records and the trailer of the nodes whose numbers
- * are given, from a place in the buffer on. The file's version is 1.
+ * are given, from a place in the buffer on. The version, 1 for points of degree 4
+ * or 2 for points of degree 6, is the file's.
  *
  * numbers[6 * i] to numbers[6 * i + 5] are the kind, r, x, y, z and w of node i,
  * in file order; an operator's last five are 0.
  *
  * Returns
- *   5 to 11, 16 or 17                the refusal number
+ *   3, 5 to 11, 16 or 17             the refusal number
  *   65,536 + end                     end is place + 12 * nodes + 12, at most
  *                                    65,536: the place just after the trailer
  *
@@ -386,14 +414,15 @@ uint64_t fenalukki_read(const uint8_t *file, size_t file_len,
  * end on are never written.
  *
  * buffer[0] to buffer[end - 1] are then a part file, whatever stands before
- * place. fenalukki_check and fenalukki_read of it return the nodes and the
- * iso-value given, and fenalukki_read gives back the numbers given. The other
- * way round, what fenalukki_read gives of a file that begins with its first
- * record (it is 12 * nodes + 12 bytes long), written at place 0 of a buffer that
- * is no shorter, is that file byte by byte.
+ * place. fenalukki_check and fenalukki_read of it return the version, the nodes
+ * and the iso-value given, and fenalukki_read gives back the numbers given. The
+ * other way round, what fenalukki_read gives of a file that begins with its first
+ * record (it is 12 * nodes + 12 bytes long), the version and the iso-value
+ * included, written at place 0 of a buffer that is no shorter, is that file byte
+ * by byte.
  */
 uint32_t fenalukki_write(const int32_t *numbers, size_t numbers_len,
-                         uint32_t iso,
+                         uint32_t iso, uint32_t version,
                          uint8_t *buffer, size_t buffer_len, size_t place);
 
 /*
@@ -408,8 +437,9 @@ uint32_t fenalukki_write(const int32_t *numbers, size_t numbers_len,
  * otherwise the bounds leave it open.
  *
  * Of each point 1 - d*d / (r*r) is rounded to a multiple of 1/65536, down and
- * up, so high - low is at most 131,071 times the sum of the sizes of the
- * part's weights.
+ * up, and in version 2 its cube to a unit, down and up. So high - low is at most
+ * 131,071 times the sum of the sizes of the part's weights, and in version 2
+ * 196,606 times.
  */
 uint32_t fenalukki_place_bounds(const uint8_t *file, size_t file_len,
                                 int32_t x, int32_t y, int32_t z,
@@ -536,7 +566,7 @@ uint64_t fenalukki_first_hit(const uint8_t *file, size_t file_len,
  * of any tick, crossing or not, tells whether the middle is solid: where it is 1
  * the field there is at least the iso-value minus, and where it is 0 it is below
  * the iso-value plus, the sum over the part's points of the size of the weight
- * divided by 16,384.
+ * divided by 16,384. In version 2 it is 7/65536 of the size of the weight.
  *
  * So a wall is printed to within a tick of its exact thickness on the ray, but
  * for that rounding; with all its crossing ticks it would be up to a tick more
@@ -753,6 +783,12 @@ static inline uint32_t fenalukki_hit_budget(int tick)
     return tick < (FENALUKKI_ENOUGH - 11) / 2 ? 2 * (uint32_t)tick + 11 : FENALUKKI_ENOUGH;
 }
 
+/* Of a check or a read: the file's version, 1 or 2; 0 where it was refused. */
+static inline int fenalukki_file_version(uint64_t number)
+{
+    return (int)(number >> 32);
+}
+
 /* Of a check or a read: the file's node count; 0 where it was refused. */
 static inline int fenalukki_nodes(uint64_t number)
 {
@@ -779,7 +815,7 @@ static inline const char *fenalukki_refusal_text(uint64_t number)
         "no refusal number",
         "the file is shorter than 24 or longer than 65,536 bytes",
         "the file's last four bytes are not hexadecimal 54 52 45 45",
-        "the file's version is not 1",
+        "the version is not 1 or 2",
         "the distance to the first record is outside 24 to 6,144, not a multiple of 12, or more than the file's length",
         "the iso-value is outside 1 to 4,096",
         "a node's kind is outside 1 to 5",

@@ -15,9 +15,9 @@
  * first hit with the numbers as steps and as the upper halves of floats. Each
  * casting call is made plain and counted. The file's nodes are read, and what
  * stands before its trailer is written as a part, two bytes for each number and
- * the trailer's iso-value: at place 0 and at A's x, unsigned, with just enough
+ * the trailer's iso-value and version: at place 0 and at A's x, unsigned, with just enough
  * room, and at A's y, below 0 a place near 2^64, with B's x, unsigned, as the
- * room. The file's first bytes are read as a saved record: none, 11, 12, 13, and
+ * room and A's z as the version's upper half. The file's first bytes are read as a saved record: none, 11, 12, 13, and
  * as many as the lower five bits of A's z say, or all where there are fewer. Each
  * piece is lent an odd number of times, so that a call's changes sides from input
  * to input.
@@ -63,7 +63,7 @@ uint32_t reference_column(const uint8_t *file, size_t file_len,
                           int32_t bx, int32_t by, int32_t bz,
                           uint8_t *column, size_t column_len);
 uint32_t reference_write(const int32_t *numbers, size_t numbers_len, uint32_t iso,
-                         uint8_t *buffer, size_t buffer_len, size_t place);
+                         uint32_t version, uint8_t *buffer, size_t buffer_len, size_t place);
 uint64_t reference_read(const uint8_t *file, size_t file_len, int32_t *numbers);
 uint32_t reference_restore_totals(const uint8_t *saved, size_t saved_len, uint64_t *totals);
 
@@ -96,7 +96,7 @@ static const struct caster marching = {"marching cast", "marching cast counted",
 struct drawing {
     int32_t numbers[LENT_MOST / 4];
     size_t count;
-    uint32_t iso;
+    uint32_t iso, version;
 };
 
 /* The totals before a call: 32 bits are full, the ceiling is near, and reached. */
@@ -267,13 +267,14 @@ static void compare_write(const struct drawing *d, size_t place, size_t room)
 {
     static uint8_t bytes[LENT_MOST];
     size_t length = d->count * sizeof *d->numbers, written = 0;
-    uint32_t found, right = reference_write(d->numbers, d->count, d->iso, bytes, room, place);
+    uint32_t found, right = reference_write(d->numbers, d->count, d->iso, d->version, bytes, room,
+                                            place);
     const uint8_t *numbers = lend(&given, d->numbers, length);
 
     if (right >= 65536)
         written = right - 65536 - place;
     lent_protect(&given);
-    found = fenalukki_write((const int32_t *)(const void *)numbers, d->count, d->iso,
+    found = fenalukki_write((const int32_t *)(const void *)numbers, d->count, d->iso, d->version,
                             lend(&buffer, NULL, room), room, place);
     expect_number("write", found, right);
     expect_same("write", take_back_from(&buffer, place, written == 0 ? bytes : bytes + place,
@@ -290,6 +291,7 @@ static void read_drawing(struct drawing *d, const struct input *in)
     if (d->count > sizeof d->numbers / sizeof *d->numbers)
         d->count = 0;
     d->iso = in->length < TRAILER ? 0 : unsigned_at(in->original + in->length - TRAILER);
+    d->version = in->length < TRAILER ? 0 : unsigned_at(in->original + in->length - TRAILER + 2);
     for (i = 0; i < d->count; i++)
         d->numbers[i] = signed_at(in->original + 2 * i);
 }
@@ -303,6 +305,7 @@ static void compare_writes(const struct input *in)
     bytes = 12 * (drawing.count / 6 + 1);
     compare_write(&drawing, 0, bytes);
     compare_write(&drawing, place, place + bytes > LENT_MOST ? 0 : place + bytes);
+    drawing.version += (uint32_t)in->ray[2] << 16;
     compare_write(&drawing, (size_t)(int64_t)in->ray[1], in->ray[3] & 0xffff);
 }
 

@@ -25,7 +25,7 @@
 #include <string.h>
 #include <unistd.h>
 
-#define HEAD 108
+#define HEAD 112
 #define KINDS 5
 #define QUESTIONS 19
 #define NOT_GIVEN 13
@@ -54,7 +54,7 @@ enum call {
 struct request {
     unsigned call;
     int damaged;
-    uint32_t ray[6], limit; /* limit: the budget, or a write's iso */
+    uint32_t ray[6], limit, version; /* limit: the budget, or a write's iso */
     size_t handed_len, room, written, place;
     uint64_t before[3], number, after[3];
     uint8_t handed[LENT_MOST]; /* the file, a write's numbers, or a saved record */
@@ -70,7 +70,7 @@ struct kinds {
 static const struct kinds cast_kinds = {16, {"refused", "complete", "spent", NULL, NULL}};
 static const struct kinds hit_kinds = {32, {"refused", "crossing", "inside", "clear", "spent"}};
 static const struct kinds column_kinds = {16, {"refused", "complete", NULL, NULL, NULL}};
-static const struct kinds check_kinds = {32, {"refused", "accepted", NULL, NULL, NULL}};
+static const struct kinds check_kinds = {32, {"refused", "version 1", "version 2", NULL, NULL}};
 static const struct kinds bounds_kinds = {16, {"refused", "answered", NULL, NULL, NULL}};
 static const struct kinds write_kinds = {
     16, {"refused", "written", "written to byte 65,536", NULL, NULL}};
@@ -171,6 +171,7 @@ static int read_request(struct request *r)
     wides_at(head + 72, r->after, 3);
     r->written = number_at(head + 96);
     r->place = (size_t)wide_at(head + 100);
+    r->version = number_at(head + 108);
     end_if_broken(r);
     read_bytes(r->handed, r->handed_len);
     read_bytes(r->expected, r->written);
@@ -253,7 +254,7 @@ static uint64_t answer(const struct request *r, const uint8_t *handed, uint8_t *
                                       (int64_t *)(void *)buffer);
     case WRITE:
         return fenalukki_write((const int32_t *)(const void *)handed, r->handed_len / 4, r->limit,
-                               buffer, r->room, r->place);
+                               r->version, buffer, r->room, r->place);
     case READ:
         return fenalukki_read(handed, r->handed_len, (int32_t *)(void *)buffer);
     case RESTORE:

@@ -1,5 +1,5 @@
 /*
- * The stack that each C entry takes, on part files: stack PART...
+ * The stack that each C entry takes, on part files, each in both versions: stack PART...
  *
  * A call runs on a stack of its own that was filled with a pattern; what is not
  * the pattern afterwards was used. Prints the most bytes for each entry. Ends
@@ -93,7 +93,7 @@ static void read_nodes(void)
 
 static void write_part(void)
 {
-    number = fenalukki_write(numbers, numbers_len, 1, written, sizeof written, 12);
+    number = fenalukki_write(numbers, numbers_len, 1, 2, written, sizeof written, 12);
 }
 
 static void restore_totals(void)
@@ -150,6 +150,13 @@ static void read_part(const char *path)
     numbers_len = 6 * (size_t)fenalukki_nodes(fenalukki_read(part, length, numbers));
 }
 
+/* The part as another version; nothing of a short file. */
+static void set_version(uint8_t version)
+{
+    if (length >= FENALUKKI_FILE_BYTES_MIN)
+        part[length - 10] = version;
+}
+
 /* Answers whether a call is refused. */
 static int measure(void)
 {
@@ -184,6 +191,9 @@ int main(int argc, char **argv)
 
     for (i = 1; i < argc; i++) {
         read_part(argv[i]);
+        set_version(1);
+        failed |= measure();
+        set_version(2);
         failed |= measure();
     }
     return print_most() || failed;

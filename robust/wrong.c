@@ -41,8 +41,8 @@ uint64_t __real_fenalukki_viewer_first_hit_counted(FILE_BYTES, FLOATS, uint32_t 
 uint64_t __real_fenalukki_check(FILE_BYTES);
 uint32_t __real_fenalukki_place_bounds(FILE_BYTES, int32_t x, int32_t y, int32_t z,
                                        int64_t *bounds);
-uint32_t __real_fenalukki_write(NUMBERS, uint32_t iso, uint8_t *buffer, size_t buffer_len,
-                                size_t place);
+uint32_t __real_fenalukki_write(NUMBERS, uint32_t iso, uint32_t version, uint8_t *buffer,
+                                size_t buffer_len, size_t place);
 uint64_t __real_fenalukki_read(FILE_BYTES, int32_t *numbers);
 uint32_t __real_fenalukki_restore_totals(SAVED, uint64_t *totals);
 
@@ -160,10 +160,16 @@ static uint32_t bytes_at(const uint8_t *at)
     return at[0] | (uint32_t)at[1] << 8;
 }
 
-/* The trailer's iso-value, and its distance's lower half; 0 of a short file. */
+/* The trailer's iso-value, its version and its distance's lower half; 0 of a short
+ * file. */
 static uint32_t iso_of(const uint8_t *file, size_t file_len)
 {
     return file_len < 12 ? 0 : bytes_at(file + file_len - 12);
+}
+
+static uint32_t version_of(const uint8_t *file, size_t file_len)
+{
+    return file_len < 12 ? 0 : bytes_at(file + file_len - 10);
 }
 
 static uint32_t distance_of(const uint8_t *file, size_t file_len)
@@ -245,6 +251,25 @@ static const uint8_t *misread(const uint8_t *file, size_t file_len)
     return memcmp(copy, file, file_len) == 0 ? file : copy;
 }
 
+/* A copy of a file of one version as another, where that is the fault; else the file
+ * itself. */
+static const uint8_t *graded(int is_fault, uint32_t from, uint32_t to, FILE_BYTES)
+{
+    static uint8_t copy[LENT_MOST];
+
+    if (!is_fault || version_of(file, file_len) != from)
+        return file;
+    memcpy(copy, file, file_len);
+    copy[file_len - 10] = (uint8_t)to;
+    return copy;
+}
+
+/* A file of version 2 as one of version 1, likewise. */
+static const uint8_t *of_degree_4(int is_fault, FILE_BYTES)
+{
+    return graded(is_fault, 2, 1, file, file_len);
+}
+
 /* The number of a full cast by a wrong limit of the file's questions. */
 static uint32_t misjudged(const uint8_t *file, size_t file_len, uint32_t number)
 {
@@ -259,6 +284,12 @@ static uint32_t misjudged(const uint8_t *file, size_t file_len, uint32_t number)
         return COMPLETE;
     if (wrong("refuses-distance-6144") && accepted && distance_of(file, file_len) == 6144)
         return 4;
+    if (wrong("passes-version-0") && number == 3 && version_of(file, file_len) == 0)
+        return COMPLETE;
+    if (wrong("passes-version-3") && number == 3 && version_of(file, file_len) == 3)
+        return COMPLETE;
+    if (wrong("refuses-version-2") && accepted && version_of(file, file_len) == 2)
+        return 3;
     if (wrong("passes-iso-4097") && number == 5 && iso_of(file, file_len) == 4097)
         return COMPLETE;
     if (wrong("refuses-iso-4096") && accepted && iso_of(file, file_len) == 4096)
@@ -313,46 +344,57 @@ static uint64_t misjudged_hit(uint64_t number, int as_clear, int by_one_probe)
     return by_one_probe && kind == 1 ? (number & ~UINT64_C(0xffff)) + 1 : number;
 }
 
-/* The number of a full cast at a place that is wrong, or its marks. */
-static uint32_t misjudged_place(uint32_t number, uint8_t *marks)
+/* What can be wrong of a full or marching cast or a column at a place. */
+struct misplaced {
+    int refused, empty, first_alone, by_one_probe, probe_less;
+};
+
+/* The number of such a call that is wrong, or the bytes left: all, or all but the first
+ * ones, are others. A spent cast can be refused alone. */
+static uint32_t misjudged_place(const struct misplaced *fault, uint32_t number, uint8_t *bytes,
+                                size_t length, size_t first, int rest)
 {
-    if (wrong("place-refused-by-cast"))
+    if (fault->refused)
         return 13;
-    if (wrong("place-always-empty") && number < 131072)
-        memset(marks, 0, 1024);
-    if (wrong("place-at-tick-0-alone") && number < 131072)
-        memset(marks + 1, 3, 1023);
-    if (wrong("place-by-one-probe") && number < 131072)
+    if (number >= 131072)
+        return number;
+    if (fault->empty)
+        memset(bytes, 0, length);
+    if (fault->first_alone)
+        memset(bytes + first, rest, length - first);
+    if (fault->by_one_probe)
         return COMPLETE;
-    return wrong("place-probe-less") && number < 131072 ? number - 1 : number;
+    return fault->probe_less ? number - 1 : number;
 }
 
-/* The same of a column, and its bits. */
+static uint32_t misjudged_place_cast(uint32_t number, uint8_t *marks)
+{
+    const struct misplaced fault = {wrong("place-refused-by-cast"), wrong("place-always-empty"),
+                                    wrong("place-at-tick-0-alone"), wrong("place-by-one-probe"),
+                                    wrong("place-probe-less")};
+
+    return misjudged_place(&fault, number, marks, 1024, 1, 3);
+}
+
 static uint32_t misjudged_place_column(uint32_t number, uint8_t *column)
 {
-    if (wrong("place-refused-by-column"))
-        return 13;
-    if (wrong("place-column-always-empty"))
-        memset(column, 0, 128);
-    if (wrong("place-column-of-tick-0-alone"))
-        memset(column + 1, 0, 127);
-    if (wrong("place-column-by-one-probe"))
-        return COMPLETE;
-    return wrong("place-column-probe-less") ? number - 1 : number;
+    const struct misplaced fault = {
+        wrong("place-refused-by-column"), wrong("place-column-always-empty"),
+        wrong("place-column-of-tick-0-alone"), wrong("place-column-by-one-probe"),
+        wrong("place-column-probe-less")};
+
+    return misjudged_place(&fault, number, column, 128, 1, 0);
 }
 
-/* The same of a marching cast, which takes five probes at least. */
+/* It takes five probes at least. */
 static uint32_t misjudged_place_march(uint32_t number, uint8_t *marks)
 {
-    if (wrong("place-refused-by-march"))
-        return 13;
-    if (wrong("place-march-always-empty") && number < 131072)
-        memset(marks, 0, 1024);
-    if (wrong("place-march-of-64-ticks") && number < 131072)
-        memset(marks + 64, 3, 960);
-    if (wrong("place-march-by-one-probe") && number < 131072)
-        return COMPLETE;
-    return wrong("place-march-probe-less") && number < 131072 ? number - 1 : number;
+    const struct misplaced fault = {
+        wrong("place-refused-by-march"), wrong("place-march-always-empty"),
+        wrong("place-march-of-64-ticks"), wrong("place-march-by-one-probe"),
+        wrong("place-march-probe-less")};
+
+    return misjudged_place(&fault, number, marks, 1024, 64, 3);
 }
 
 /* A hit's number with a probe more, where it has as many as the figure of its tick. */
@@ -394,8 +436,11 @@ static uint64_t misviewed(FLOATS, uint64_t number)
 uint32_t __wrap_fenalukki_full_cast(FILE_BYTES, ENDS, uint32_t budget, uint8_t *marks,
                                     size_t marks_len)
 {
-    uint32_t number = __real_fenalukki_full_cast(misread(file, file_len), told_file(file_len),
-                                                 RAY, budget, marks, told_room(marks_len));
+    const uint8_t *known = misread(file, file_len);
+    const uint8_t *read = graded(wrong("cast-of-degree-6"), 1, 2, known, file_len);
+    uint32_t number = __real_fenalukki_full_cast(
+        of_degree_4(wrong("cast-of-degree-4"), read, file_len), told_file(file_len), RAY, budget,
+        marks, told_room(marks_len));
 
     touch_file(file, file_len);
     touch_buffer(number, marks, marks_len, 1024);
@@ -408,13 +453,14 @@ uint32_t __wrap_fenalukki_full_cast(FILE_BYTES, ENDS, uint32_t budget, uint8_t *
     if (wrong("crossing-as-inside") && number >= 65536 && memchr(marks, 1, 1024) != NULL)
         *(uint8_t *)memchr(marks, 1, 1024) = 2;
     if (is_answered_place(RAY, number))
-        number = misjudged_place(number, marks);
+        number = misjudged_place_cast(number, marks);
     return misjudged(file, file_len, number);
 }
 
 uint64_t __wrap_fenalukki_first_hit(FILE_BYTES, ENDS, uint32_t budget)
 {
-    uint64_t number = __real_fenalukki_first_hit(file, told_file(file_len), RAY, budget);
+    const uint8_t *read = of_degree_4(wrong("hit-of-degree-4"), file, file_len);
+    uint64_t number = __real_fenalukki_first_hit(read, told_file(file_len), RAY, budget);
 
     touch_file(file, file_len);
     if (wrong("next-tick") && number >> 32 == 1)
@@ -512,7 +558,8 @@ static uint32_t miscolumn(uint32_t number, FILE_BYTES, ENDS, uint8_t *column)
 
 uint32_t __wrap_fenalukki_column(FILE_BYTES, ENDS, uint8_t *column, size_t column_len)
 {
-    uint32_t number = __real_fenalukki_column(file, told_file(file_len), RAY, column,
+    const uint8_t *read = of_degree_4(wrong("column-of-degree-4"), file, file_len);
+    uint32_t number = __real_fenalukki_column(read, told_file(file_len), RAY, column,
                                               told_room(column_len));
     uint32_t crossing = miscolumn(number, file, file_len, RAY, column);
 
@@ -531,7 +578,8 @@ uint32_t __wrap_fenalukki_column(FILE_BYTES, ENDS, uint8_t *column, size_t colum
 
 uint64_t __wrap_fenalukki_viewer_first_hit(FILE_BYTES, FLOATS, uint32_t budget)
 {
-    uint64_t number = __real_fenalukki_viewer_first_hit(file, told_file(file_len), RAY, budget);
+    const uint8_t *read = of_degree_4(wrong("viewer-of-degree-4"), file, file_len);
+    uint64_t number = __real_fenalukki_viewer_first_hit(read, told_file(file_len), RAY, budget);
 
     touch_file(file, file_len);
     if (wrong("viewer-hit-beyond-figure"))
@@ -551,7 +599,8 @@ uint32_t __wrap_fenalukki_full_cast_counted(FILE_BYTES, ENDS, uint32_t budget, u
 {
     uint64_t casts = totals[0];
     uint32_t number = __real_fenalukki_full_cast_counted(
-        file, told_file(file_len), RAY, budget, marks, told_room(marks_len), totals);
+        of_degree_4(wrong("counted-cast-of-degree-4"), file, file_len), told_file(file_len), RAY,
+        budget, marks, told_room(marks_len), totals);
 
     touch_file(file, file_len);
     touch_buffer(number, marks, marks_len, 1024);
@@ -567,8 +616,9 @@ uint64_t __wrap_fenalukki_first_hit_counted(FILE_BYTES, ENDS, uint32_t budget,
                                             uint64_t *totals)
 {
     uint64_t casts = totals[0];
-    uint64_t number = __real_fenalukki_first_hit_counted(file, told_file(file_len), RAY, budget,
-                                                         totals);
+    uint64_t number = __real_fenalukki_first_hit_counted(
+        of_degree_4(wrong("counted-hit-of-degree-4"), file, file_len), told_file(file_len), RAY,
+        budget, totals);
 
     touch_file(file, file_len);
     touch_totals(number, casts, totals);
@@ -587,8 +637,9 @@ uint32_t __wrap_fenalukki_column_counted(FILE_BYTES, ENDS, uint8_t *column, size
                                          uint64_t *totals)
 {
     uint64_t casts = totals[0];
-    uint32_t number = __real_fenalukki_column_counted(file, told_file(file_len), RAY, column,
-                                                      told_room(column_len), totals);
+    uint32_t number = __real_fenalukki_column_counted(
+        of_degree_4(wrong("counted-column-of-degree-4"), file, file_len), told_file(file_len), RAY,
+        column, told_room(column_len), totals);
     uint32_t crossing = miscolumn(number, file, file_len, RAY, column);
 
     touch_file(file, file_len);
@@ -615,8 +666,9 @@ uint64_t __wrap_fenalukki_viewer_first_hit_counted(FILE_BYTES, FLOATS, uint32_t 
                                                    uint64_t *totals)
 {
     uint64_t before[3] = {totals[0], totals[1], totals[2]};
-    uint64_t number = __real_fenalukki_viewer_first_hit_counted(file, told_file(file_len), RAY,
-                                                                budget, totals);
+    uint64_t number = __real_fenalukki_viewer_first_hit_counted(
+        of_degree_4(wrong("counted-viewer-of-degree-4"), file, file_len), told_file(file_len), RAY,
+        budget, totals);
 
     touch_file(file, file_len);
     touch_totals(number, before[0], totals);
@@ -713,9 +765,9 @@ uint32_t __wrap_fenalukki_marching_cast(FILE_BYTES, ENDS, uint32_t budget, uint8
     if (wrong("march-from-b"))
         return __real_fenalukki_marching_cast(file, file_len, bx, by, bz, ax, ay, az, budget,
                                               marks, marks_len);
-    number = __real_fenalukki_marching_cast(file, told_march_file(file_len), RAY,
-                                            told_budget(budget), marks,
-                                            told_march_room(marks_len));
+    number = __real_fenalukki_marching_cast(
+        of_degree_4(wrong("march-of-degree-4"), file, file_len), told_march_file(file_len), RAY,
+        told_budget(budget), marks, told_march_room(marks_len));
     touch_file(file, file_len);
     touch_buffer(number, marks, marks_len, 1024);
     mismarch(number, marks, marks_len, before);
@@ -745,7 +797,8 @@ uint32_t __wrap_fenalukki_marching_cast_counted(FILE_BYTES, ENDS, uint32_t budge
 {
     uint64_t before[3] = {totals[0], totals[1], totals[2]};
     uint32_t number = __real_fenalukki_marching_cast_counted(
-        file, told_file(file_len), RAY, budget, marks, told_room(marks_len), totals);
+        of_degree_4(wrong("counted-march-of-degree-4"), file, file_len), told_file(file_len), RAY,
+        budget, marks, told_room(marks_len), totals);
 
     touch_file(file, file_len);
     touch_buffer(number, marks, marks_len, 1024);
@@ -760,6 +813,16 @@ uint32_t __wrap_fenalukki_marching_cast_counted(FILE_BYTES, ENDS, uint32_t budge
     return number;
 }
 
+/* A check's or a read's number without the file's version: with 1, or with 0. */
+static uint64_t forgotten(int as_1, int as_0, uint64_t number)
+{
+    uint64_t rest = number & 0xffffffff;
+
+    if (number < 65536 || !(as_1 || as_0))
+        return number;
+    return as_1 ? rest | UINT64_C(1) << 32 : rest;
+}
+
 uint64_t __wrap_fenalukki_check(FILE_BYTES)
 {
     uint64_t number = __real_fenalukki_check(file, told_file(file_len));
@@ -769,6 +832,11 @@ uint64_t __wrap_fenalukki_check(FILE_BYTES)
         number -= 65536;
     if (wrong("iso-too-great") && number >= 65536)
         number++;
+    number = forgotten(wrong("check-always-version-1"), wrong("check-without-version"), number);
+    if (wrong("check-passes-version-0") && number == 3 && version_of(file, file_len) == 0)
+        number = 65536 + iso_of(file, file_len);
+    if (wrong("check-passes-version-3") && number == 3 && version_of(file, file_len) == 3)
+        number = (UINT64_C(3) << 32) + 65536 + iso_of(file, file_len);
     if (wrong("check-passes-held-65") && number == 10 && most_held(file, file_len) == 65)
         number = (UINT64_C(1) << 32) + 129 * 65536 + iso_of(file, file_len);
     return number;
@@ -777,7 +845,8 @@ uint64_t __wrap_fenalukki_check(FILE_BYTES)
 uint32_t __wrap_fenalukki_place_bounds(FILE_BYTES, int32_t x, int32_t y, int32_t z,
                                        int64_t *bounds)
 {
-    uint32_t number = __real_fenalukki_place_bounds(file, told_file(file_len), x, y, z, bounds);
+    const uint8_t *read = of_degree_4(wrong("bounds-of-degree-4"), file, file_len);
+    uint32_t number = __real_fenalukki_place_bounds(read, told_file(file_len), x, y, z, bounds);
     int refused = number < 65536;
 
     touch_file(file, file_len);
@@ -864,8 +933,16 @@ static void miswrite(uint8_t *part, uint8_t *trailer)
         miswrite_record(record);
     if (wrong("distance-without-trailer"))
         put_bytes(trailer + 4, (uint32_t)(trailer - part));
-    if (wrong("version-2"))
+    if (wrong("writes-version-1"))
+        trailer[2] = 1;
+    if (wrong("writes-version-2"))
         trailer[2] = 2;
+    if (wrong("writes-versions-exchanged"))
+        trailer[2] ^= 3;
+    if (wrong("version-as-big-endian")) {
+        trailer[3] = trailer[2];
+        trailer[2] = 0;
+    }
     if (wrong("iso-less-one"))
         put_bytes(trailer, bytes_at(trailer) - 1);
 }
@@ -897,6 +974,34 @@ static const int32_t *narrowed(NUMBERS)
     return copy;
 }
 
+/* The version of which only lower bits are taken. */
+static uint32_t told_version(uint32_t version)
+{
+    if (wrong("version-in-8-bits"))
+        return version & 0xff;
+    return wrong("version-in-16-bits") ? version & 0xffff : version;
+}
+
+/* The number of a write by a wrong judgement of its version, or asked out of turn. */
+static uint32_t misversioned(size_t numbers_len, uint32_t iso, uint32_t version, size_t place,
+                             uint32_t number)
+{
+    uint32_t end = (uint32_t)(place + 12 * (numbers_len / 6 + 1));
+    int is_right = version == 1 || version == 2;
+
+    if (wrong("writes-as-version-0") && number == 3 && version == 0)
+        return 65536 + end;
+    if (wrong("writes-as-version-3") && number == 3 && version == 3)
+        return 65536 + end;
+    if (wrong("write-refuses-version-2") && number >= 65536 && version == 2)
+        return 3;
+    if (wrong("asks-3-before-16") && number == 16 && !is_right)
+        return 3;
+    if (wrong("asks-5-before-3") && number == 3 && (iso < 1 || iso > 4096))
+        return 5;
+    return number;
+}
+
 /* The number of a write by a wrong limit, or by questions in another order. */
 static uint32_t miswritten(size_t numbers_len, size_t length, size_t place, uint32_t number)
 {
@@ -924,18 +1029,19 @@ static uint32_t miswritten(size_t numbers_len, size_t length, size_t place, uint
     return number;
 }
 
-uint32_t __wrap_fenalukki_write(NUMBERS, uint32_t iso, uint8_t *buffer, size_t buffer_len,
-                                size_t place)
+uint32_t __wrap_fenalukki_write(NUMBERS, uint32_t iso, uint32_t version, uint8_t *buffer,
+                                size_t buffer_len, size_t place)
 {
     uint32_t told_iso = wrong("iso-in-16-bits") ? iso & 0xffff : iso;
-    uint32_t number = __real_fenalukki_write(narrowed(numbers, numbers_len),
-                                             told_numbers(numbers_len), told_iso, buffer,
-                                             told_part_room(buffer_len), place);
+    uint32_t number = __real_fenalukki_write(
+        narrowed(numbers, numbers_len), told_numbers(numbers_len), told_iso, told_version(version),
+        buffer, told_part_room(buffer_len), place);
 
     touch_numbers(numbers, numbers_len);
     touch_part(number, buffer, buffer_len, place);
     if (number >= 65536)
         miswrite(buffer + place, buffer + (number - 65536 - 12));
+    number = misversioned(numbers_len, iso, version, place, number);
     return miswritten(numbers_len, buffer_len, place, number);
 }
 
@@ -960,7 +1066,7 @@ uint64_t __wrap_fenalukki_read(FILE_BYTES, int32_t *numbers)
         numbers[2] = -numbers[2];
     if (wrong("read-node-too-few") && !refused)
         number -= 65536;
-    return number;
+    return forgotten(wrong("read-always-version-1"), wrong("read-without-version"), number);
 }
 
 /* Reads what it should not read of a saved record, or changes it. */

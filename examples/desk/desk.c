@@ -19,14 +19,14 @@
 
 enum { DONE = 0, MISTAKE = 1, TROUBLE = 2 };
 
-/* What a line begins with, by kind; 0 stands for the iso-value. */
+/* What a line begins with: a node, by its kind, the iso-value or the version. */
 struct form {
     const char *word;
     int numbers; /* that follow the word */
     const char *takes;
 };
 
-enum { ISO_FORM = 0, FORMS = FENALUKKI_KIND_CUT + 1 };
+enum { ISO_FORM = 0, VERSION_FORM = FENALUKKI_KIND_CUT + 1, FORMS };
 
 static const struct form forms[FORMS] = {
     [ISO_FORM] = {"iso", 1, "one number"},
@@ -34,7 +34,8 @@ static const struct form forms[FORMS] = {
     [FENALUKKI_KIND_SUM] = {"sum", 0, "no number"},
     [FENALUKKI_KIND_GREATER] = {"greater", 0, "no number"},
     [FENALUKKI_KIND_LESSER] = {"lesser", 0, "no number"},
-    [FENALUKKI_KIND_CUT] = {"cut", 0, "no number"}
+    [FENALUKKI_KIND_CUT] = {"cut", 0, "no number"},
+    [VERSION_FORM] = {"version", 1, "one number"}
 };
 
 /* Longer words are cut off: they are no word of a drawing, and no number. */
@@ -46,8 +47,8 @@ struct drawing {
     char word[WORD_SIZE];
     unsigned long line; /* the one that is read, from 1 on */
     unsigned long node_line; /* the last node's */
-    int has_iso;
-    uint32_t iso;
+    int has_iso, has_version;
+    uint32_t iso, version;
     int32_t numbers[FENALUKKI_NUMBERS_MAX + FENALUKKI_NUMBERS_PER_NODE]; /* a node too many */
     size_t count; /* of numbers */
     uint8_t part[FENALUKKI_WRITE_BYTES_MAX];
@@ -143,7 +144,8 @@ static int read_numbers(struct drawing *drawing, const struct form *form, int32_
 
 static uint32_t write_part(struct drawing *drawing, const int32_t *numbers, size_t count)
 {
-    return fenalukki_write(numbers, count, drawing->iso, drawing->part, sizeof drawing->part, 0);
+    return fenalukki_write(numbers, count, drawing->iso, drawing->version, drawing->part,
+                           sizeof drawing->part, 0);
 }
 
 /* In the header's words, but for a count of numbers, of which a drawing has none. */
@@ -156,10 +158,12 @@ static int refused(const struct drawing *drawing, uint32_t number)
     return mistake(drawing, "refused %d, %s", fenalukki_refusal(number), text);
 }
 
-/* Tried at once, with a point that is always accepted. */
+/* What the iso-value and the version are tried with: always accepted. */
+static const int32_t point[FENALUKKI_NUMBERS_PER_NODE] = {FENALUKKI_KIND_POINT, 1, 0, 0, 0, 0};
+
+/* Tried at once. */
 static int put_iso(struct drawing *drawing, int32_t iso)
 {
-    static const int32_t point[FENALUKKI_NUMBERS_PER_NODE] = {FENALUKKI_KIND_POINT, 1, 0, 0, 0, 0};
     uint32_t number;
 
     if (drawing->has_iso)
@@ -168,6 +172,21 @@ static int put_iso(struct drawing *drawing, int32_t iso)
     drawing->iso = (uint32_t)iso; /* a negative one becomes too large */
     number = write_part(drawing, point, FENALUKKI_NUMBERS_PER_NODE);
     return !fenalukki_refusal(number) || refused(drawing, number);
+}
+
+/* Tried at once; that the iso-value is missing is no mistake yet. */
+static int put_version(struct drawing *drawing, int32_t version)
+{
+    uint32_t number;
+
+    if (drawing->has_version)
+        return mistake(drawing, "version comes a second time");
+    if (drawing->count > 0)
+        return mistake(drawing, "version comes after a node");
+    drawing->has_version = 1;
+    drawing->version = (uint32_t)version; /* a negative one becomes too large */
+    number = write_part(drawing, point, FENALUKKI_NUMBERS_PER_NODE);
+    return number != FENALUKKI_REFUSED_VERSION || refused(drawing, number);
 }
 
 /* Tried with the nodes before it; that more are held than one is no mistake yet. */
@@ -206,6 +225,8 @@ static int read_line(struct drawing *drawing)
     node[FENALUKKI_NODE_KIND] = kind;
     if (!read_numbers(drawing, &forms[kind], node + 1))
         return 0;
+    if (kind == VERSION_FORM)
+        return put_version(drawing, node[1]);
     return kind == ISO_FORM ? put_iso(drawing, node[1]) : put_node(drawing, node);
 }
 
@@ -262,6 +283,7 @@ static int write_command(const char *name, const char *part_name)
     size_t length;
 
     drawing.name = name;
+    drawing.version = FENALUKKI_FILE_VERSION_DEGREE_4; /* unless the drawing has another */
     drawing.file = fopen(name, "rb");
     if (drawing.file == NULL)
         return trouble("read", name);
@@ -309,6 +331,8 @@ static void print_drawing(FILE *file, uint64_t number, const int32_t *numbers, s
     if (leading > 0)
         fprintf(file, "# without the %lu bytes before the first record\n", (unsigned long)leading);
     fprintf(file, "iso %d\n", fenalukki_iso(number));
+    if (fenalukki_file_version(number) != FENALUKKI_FILE_VERSION_DEGREE_4)
+        fprintf(file, "version %d\n", fenalukki_file_version(number));
     for (i = 0; i < nodes; i++)
         print_node(file, numbers + i * FENALUKKI_NUMBERS_PER_NODE);
 }

@@ -116,6 +116,15 @@ fn a_drift_of_the_header_is_seen() {
         ("size_t numbers_len", "size_t numbers_count"),
         ("size_t place", "uint32_t place"),
         (
+            "uint32_t iso, uint32_t version",
+            "uint32_t version, uint32_t iso",
+        ),
+        (
+            "uint32_t iso, uint32_t version",
+            "uint32_t iso, uint16_t version",
+        ),
+        ("uint32_t iso, uint32_t version", "uint32_t iso"),
+        (
             "size_t buffer_len, size_t place",
             "size_t place, size_t buffer_len",
         ),
@@ -175,10 +184,28 @@ fn named(name: &str) -> u32 {
     digits.and_then(|digits| digits.parse().ok()).expect(name)
 }
 
+/// The nodes and the iso-value of a file, or the refusal number.
+fn checked(file: &[u8]) -> Result<(u32, u32), u32> {
+    part::read(file).map(|part| (part.nodes.len() as u32, part.iso.into()))
+}
+
+/// The version in a file's trailer.
+fn version_of(file: &[u8]) -> u16 {
+    let at = file.len() - 10;
+    u16::from_le_bytes([file[at], file[at + 1]])
+}
+
+/// The file as another version.
+fn as_version(mut file: Vec<u8>, version: u16) -> Vec<u8> {
+    let at = file.len() - 10;
+    file[at..at + 2].copy_from_slice(&version.to_le_bytes());
+    file
+}
+
 /// The check's answer to a file of one point.
 fn check_point(r: u32, x: i32, w: i32, iso: u32) -> Result<(u32, u32), u32> {
     let file = FileBuilder::new(iso as u16);
-    part::check(&file.point(r as u16, [0, x as i16, 0], w as i16).build())
+    checked(&file.point(r as u16, [0, x as i16, 0], w as i16).build())
 }
 
 /// Points, of which all but one are joined as they come or at the end.
@@ -193,14 +220,14 @@ fn check_points(points: u32, joined: bool) -> Result<(u32, u32), u32> {
     };
     let file = (0..points).fold(FileBuilder::new(1), add);
     let joins = if joined { 0 } else { points - 1 };
-    part::check(&(0..joins).fold(file, |file, _| file.sum()).build())
+    checked(&(0..joins).fold(file, |file, _| file.sum()).build())
 }
 
 fn check_length(length: u32) -> Result<(u32, u32), u32> {
     let file = FileBuilder::new(1).point(1, [0; 3], 1);
     let leading = length.saturating_sub(24) as usize;
     let file = file.leading(&vec![0xee; leading]).build();
-    part::check(&file[..length as usize])
+    checked(&file[..length as usize])
 }
 
 /// A name that stands for a limit of the file is the last value that passes.
@@ -253,6 +280,19 @@ fn the_names_of_kinds() {
     assert_eq!(header.matches("#define FENALUKKI_KIND_").count(), 5);
 }
 
+/// The versions of document 01 and P9; no other has a name.
+#[test]
+fn the_names_of_versions() {
+    let degrees = [4, 6].map(|degree| named(&format!("FILE_VERSION_DEGREE_{degree}")));
+    assert_eq!(degrees, [1, 2]);
+    let header = read("include/fenalukki.h");
+    assert_eq!(header.matches("#define FENALUKKI_FILE_VERSION").count(), 2);
+    let k = FileBuilder::new(1).point(512, [0; 3], 4);
+    for (version, answer) in [(0, Err(3)), (1, Ok((1, 1))), (2, Ok((1, 1))), (3, Err(3))] {
+        assert_eq!(checked(&k.clone().version(version).build()), answer);
+    }
+}
+
 /// A node's six numbers in their order, and how much there is of the longest part.
 #[test]
 fn the_names_of_numbers() {
@@ -287,8 +327,9 @@ const MARK: usize = 5;
 const PLACE: usize = 6;
 const NODES: usize = 7;
 const ISO: usize = 8;
-const END: usize = 9;
-const SECOND_UNIT: usize = 10;
+const FILE_VERSION: usize = 9;
+const END: usize = 10;
+const SECOND_UNIT: usize = 11;
 
 /// A call's number, and what the readers that are for it say.
 type Reading = (u64, Vec<(usize, String)>);
@@ -307,7 +348,8 @@ fn reading(number: u64, words: &[(usize, u32)]) -> Reading {
 }
 
 fn refused(number: u32) -> Reading {
-    let zero = [PROBES, SPENT, K, TICK, PLACE, NODES, ISO, END].map(|word| (word, 0));
+    let zero = [PROBES, SPENT, K, TICK, PLACE, NODES, ISO, FILE_VERSION, END];
+    let zero = zero.map(|word| (word, 0));
     let said = [(REFUSAL, number), (SECOND_UNIT, number), (MARK, 3)];
     reading(number.into(), &[&zero[..], &said[..]].concat())
 }
@@ -348,9 +390,11 @@ fn hits(tick: u32, probes: u32) -> Vec<Reading> {
     cases.map(words).into()
 }
 
-fn check(nodes: u32, iso: u32) -> Reading {
-    let number = (1 << 32) + u64::from(nodes) * 65_536 + u64::from(iso);
-    reading(number, &[(NODES, nodes), (ISO, iso)])
+fn check(version: u32, nodes: u32, iso: u32) -> Reading {
+    let [high, middle, low] = [version, nodes, iso].map(u64::from);
+    let number = (high << 32) + middle * 65_536 + low;
+    let said = [(FILE_VERSION, version), (NODES, nodes), (ISO, iso)];
+    reading(number, &said)
 }
 
 fn write(end: u32) -> Reading {
@@ -375,7 +419,10 @@ fn readings() -> Vec<Reading> {
     }
     let sizes = [1, 2, 255, 256, 510, 511];
     let isos = [1, 2, 768, 4095, 4096];
-    all.extend(sizes.iter().flat_map(|n| isos.map(|iso| check(*n, iso))));
+    for version in [1, 2] {
+        let of_size = |&nodes: &u32| isos.map(|iso| check(version, nodes, iso));
+        all.extend(sizes.iter().flat_map(of_size));
+    }
     all
 }
 
@@ -417,6 +464,14 @@ const SHAPE: Shape = Shape {
     iso: (1, 4096),
 };
 
+/// The most by which the bounds of a point of weight 1 differ, by the version: of q from 65,535 to 65,536.
+fn width(version: u16) -> i64 {
+    match version {
+        1 => 131_071,
+        _ => 196_606,
+    }
+}
+
 /// The width that the header gives to the bounds at a place; file K at (1, 0, 0) has the whole of it.
 #[test]
 fn the_width_of_the_bounds_at_a_place() {
@@ -427,13 +482,15 @@ fn the_width_of_the_bounds_at_a_place() {
         let file = FileBuilder::from(&part).build();
         let bounds = cast::bounds_at(&file, at).expect("bounds");
         let weights = part.nodes.iter().map(|node| i64::from(node.w).abs());
-        let most = 131_071 * weights.sum::<i64>();
+        let most = width(version_of(&file)) * weights.sum::<i64>();
         assert!(bounds.high - bounds.low <= most, "{at:?} {part:?}");
     }
-    let k = FileBuilder::new(1).point(512, [0; 3], 4).build();
-    let bounds = cast::bounds_at(&k, [1, 0, 0]).expect("bounds");
-    assert_eq!(bounds.high - bounds.low, 131_071 * 4);
-    let said = "high - low is at most 131,071 times";
+    for version in [1, 2] {
+        let k = FileBuilder::new(1).point(512, [0; 3], 4).version(version);
+        let bounds = cast::bounds_at(&k.build(), [1, 0, 0]).expect("bounds");
+        assert_eq!(bounds.high - bounds.low, width(version) * 4);
+    }
+    let said = "So high - low is at most\n * 131,071 times the sum of the sizes of the part's weights, and in version 2\n * 196,606 times.";
     assert!(read("include/fenalukki.h").contains(said));
 }
 
@@ -444,7 +501,8 @@ fn columns(name: &str, parts: &[PathBuf]) -> String {
     text(output.expect("starts"))
 }
 
-/// File K's column on the ray of document 02, and a strut between two middles: it has no bit, and its ticks are crossing.
+/// File K's column on the ray of document 02, a strut between two middles, which has no bit and two crossing ticks, and file K of degree 6:
+/// a ball of 311.4 steps, where it is 362.04 of degree 4.
 #[test]
 fn columns_through_the_c_entries() {
     let lines = [
@@ -459,28 +517,51 @@ fn columns_through_the_c_entries() {
         "crossing 511-512",
         "inside",
         "solid",
+        "softer 65575",
+        "crossing 356-356 667-667",
+        "inside 357-666",
+        "solid 356-667",
         "",
     ];
     assert_eq!(columns("columns", &[]), lines.join("\n"));
 }
 
-/// Where a middle is a whole step, a host can work out a column's bit from the mark and the bounds at that place.
+/// The parts of the examples, as they are and as version 2, under a folder of this name.
+fn parts_of_both_versions(name: &str) -> Vec<PathBuf> {
+    let parts = ["bracket", "core", "core-cut", "core-sum", "k", "pad"];
+    let folder = temporary(name);
+    fs::create_dir_all(&folder).expect("a folder");
+    let both = parts.map(|part| {
+        let path = root().join(format!("examples/parts/{part}.part"));
+        let file = fs::read(&path).expect(part);
+        assert_eq!(version_of(&file), 1, "{part}");
+        let softer = folder.join(format!("{part}.part"));
+        fs::write(&softer, as_version(file, 2)).expect("written");
+        [path, softer]
+    });
+    both.concat()
+}
+
+/// Where a middle is a whole step, a host can work out a column's bit from the mark and the bounds at that place. Of degree 6 the pad is below
+/// its iso-value on all these rays.
 #[test]
 fn bits_by_marks_and_bounds() {
-    let parts = ["bracket", "core", "core-cut", "core-sum", "k", "pad"];
-    let paths = parts.map(|part| root().join(format!("examples/parts/{part}.part")));
-    let output = columns("columns_of_parts", &paths);
+    let parts = parts_of_both_versions("columns_softer");
+    let output = columns("columns_of_parts", &parts);
     assert_eq!(output.lines().count(), parts.len());
-    for (line, part) in output.lines().zip(parts) {
+    for (line, part) in output.lines().zip(&parts) {
+        let is_empty = part.ends_with("columns_softer/pad.part");
+        let part = part.display();
         let numbers = line.split(' ').skip(1).step_by(2).map(str::parse);
         let numbers: Vec<u32> = numbers.map(|number| number.expect("a number")).collect();
         let [crossing, solid, wrong] = numbers[..] else {
             panic!("{part}: {line}");
         };
-        assert!(
-            0 < solid && solid < crossing && wrong == 0,
-            "{part}: {line}"
-        );
+        let right = match is_empty {
+            true => crossing == 0,
+            false => 0 < solid && solid < crossing,
+        };
+        assert!(right && wrong == 0, "{part}: {line}");
     }
 }
 
@@ -503,7 +584,11 @@ fn the_rounding_of_a_bit() {
         let ray = generate::ray(&mut random, &part, STYLES[i % STYLES.len()]);
         let file = FileBuilder::from(&part).build();
         let weights = part.nodes.iter().map(|node| i128::from(node.w).abs());
-        let rounding = Fraction::new(weights.sum(), 16_384).expect("a fraction");
+        let rounding = match version_of(&file) {
+            1 => Fraction::new(weights.sum(), 16_384),
+            _ => Fraction::new(7 * weights.sum::<i128>(), 65_536),
+        };
+        let rounding = rounding.expect("a fraction");
         let iso = Fraction::from(i64::from(part.iso));
         let (bits, marks) = bits_and_marks(&file, &ray);
         for tick in (0..1024).filter(|&tick| marks[tick] == 1) {
@@ -515,7 +600,7 @@ fn the_rounding_of_a_bit() {
         }
     }
     assert!(seen.iter().all(|&ticks| ticks > 1000), "{seen:?}");
-    let said = "the size of the weight\n * divided by 16,384.";
+    let said = "the size of the weight\n * divided by 16,384. In version 2 it is 7/65536 of the size of the weight.";
     assert!(read("include/fenalukki.h").contains(said));
 }
 
@@ -536,17 +621,17 @@ fn the_names_of_refusals() {
 /// Each refusal number has a text of its own.
 #[test]
 fn refusal_texts() {
-    let numbers = (0..=18).chain([19, 65_535, 65_536, 65_575, 1 << 32]);
+    let numbers = (0..=18).chain([19, 65_535, 65_536, 65_575, 1 << 32, 2 << 32]);
     let input: String = numbers.map(|n: u64| format!("n {n:x}\n")).collect();
     for program in readers("texts") {
         let output = printed(&program, &input);
-        let texts = output.lines().map(|line| line.splitn(12, ' ').last());
+        let texts = output.lines().map(|line| line.splitn(13, ' ').last());
         let texts: Vec<&str> = texts.map(|text| text.expect("a text")).collect();
         let own: BTreeSet<&str> = refusals().map(|number| texts[number as usize]).collect();
         assert_eq!(own.len(), 17);
         assert!(!own.contains("no refusal number") && !own.contains("not refused"));
         assert_eq!([0, 13, 19, 20].map(|n| texts[n]), ["no refusal number"; 4]);
-        assert_eq!(texts[21..], ["not refused"; 3]);
+        assert_eq!(texts[21..], ["not refused"; 4]);
     }
 }
 
@@ -764,8 +849,120 @@ fn the_saved_record_of_the_tour() {
         "11 bytes: refused 18, the saved record is not exactly 12 bytes long",
         &format!("  the totals: {after}"),
     ];
-    let shown = section(&printed, "\n14. A saved record\n", "\n\n15. ");
+    let shown = section(&printed, "\n15. A saved record\n", "\n\n16. ");
     assert_eq!(shown, lines.join("\n"));
+}
+
+/// The runs of equal words, each with its first and its last tick.
+fn runs(words: &[&str]) -> String {
+    let mut lines = String::new();
+    let mut first = 0;
+    for run in words.chunk_by(|a, b| a == b) {
+        let last = first + run.len() - 1;
+        lines += &format!("  {} {first} to {last}\n", run[0]);
+        first = last + 1;
+    }
+    lines
+}
+
+/// What the tour prints of the worked file as a version, by the reference.
+fn version_of_tour(file: &[u8], version: u16) -> String {
+    let says = format!("version {version}, ");
+    let bounds = [[0, -256, 0], [0, 400, 64]].map(|at| {
+        let Bounds { low, high } = cast::bounds_at(file, at).expect("bounds");
+        let [from, to] = [low, high].map(|bound| bound as f64 / 4_294_967_296.0);
+        let [x, y, z] = at;
+        format!("{says}({x}, {y}, {z}): {low} to {high}, field {from:.3} to {to:.3}, solid\n")
+    });
+    let ray = |a, b| Ray { a, b };
+    let along = ray([-1024, -256, 0], [1024, -256, 0]);
+    let FirstHit::Hit { tick, mark, probes } = cast::first_hit(file, &along, 2047) else {
+        panic!("no hit");
+    };
+    assert_eq!(mark, Mark::Crossing);
+    let entry = f64::from(tick) / 1024.0;
+    let hit = format!("hit, tick {tick} is crossing, entry {entry}, {probes} probes");
+    let (bits, marks) = bits_and_marks(file, &ray([0, 1024, 0], [0, -1024, 0]));
+    let down = cast::column(file, &ray([0, 1024, 0], [0, -1024, 0]), &mut [0; 128]);
+    let probes = down.probes().expect("probes");
+    let marks = marks.map(|mark| ["empty", "crossing", "inside"][usize::from(mark)]);
+    let solid: [&str; 1024] = std::array::from_fn(|tick| match bits[tick / 8] >> (tick % 8) & 1 {
+        0 => "hollow",
+        _ => "solid",
+    });
+    let solid = runs(&solid);
+    let solid = solid.lines().filter(|line| line.contains("solid"));
+    let solid: String = solid.map(|line| format!("{line}\n")).collect();
+    format!(
+        "{}{says}(-1024, -256, 0) to (1024, -256, 0), budget 2047: {hit}\n\
+         {says}budget 2047: {probes} probes, complete\n{}{says}column: {probes} probes\n{solid}",
+        bounds.concat(),
+        runs(&marks)
+    )
+}
+
+/// The part of the tour in both versions.
+#[test]
+fn the_versions_of_the_tour() {
+    let (format, tour) = (read("docs/FORMAT.md"), read("examples/tour.out"));
+    let shown = section(&tour, "\n\n13. ", "\n\n14. ");
+    let files = [1, 2].map(|version| as_version(worked_file(&format), version));
+    let both =
+        [1, 2].map(|version: u16| version_of_tour(&files[usize::from(version) - 1], version));
+    let both = both.concat();
+    assert!(shown.contains(&both), "{both}");
+    let writes = section(&tour, "\n\n3. ", "\n\n4. ");
+    for said in [
+        "version 2, numbers as given\n  8 bytes not written, 1 of the others not as in 1\n",
+        "\nversion 0, place 8: refused 3, the version is not 1 or 2\n  80 bytes not written\n",
+        "\nversion 3, place 8: refused 3, the version is not 1 or 2\n  80 bytes not written",
+    ] {
+        assert!(writes.contains(said), "{said}");
+    }
+}
+
+/// What `versions.c` prints of these parts, or of its own.
+fn versions(name: &str, parts: &[PathBuf]) -> String {
+    let program = c99(name, &["reference/tests/c_interface/versions.c"]);
+    let output = Command::new(program).args(parts).output();
+    text(output.expect("starts"))
+}
+
+/// A write asks 16, then 3, then 5 to 11, then 17, and takes all bits of the version.
+#[test]
+fn the_version_of_a_write() {
+    let lines = versions("versions_written", &[]);
+    let mut accepted = Vec::new();
+    for line in lines.lines() {
+        let (version, numbers) = line.split_once(": ").expect("two");
+        match version {
+            "1" | "2" => {
+                assert_eq!(numbers, "65560 16 5 6 11 17 16");
+                accepted.push(version);
+            }
+            _ => assert_eq!(numbers, "3 16 3 3 3 3 16", "{version}"),
+        }
+    }
+    assert_eq!((accepted, lines.lines().count()), (vec!["1", "2"], 17));
+}
+
+/// The version by its reader, and in what is read and written again.
+#[test]
+fn the_version_of_a_part() {
+    let parts = parts_of_both_versions("softer");
+    let lines = versions("versions_of_parts", &parts);
+    assert_eq!(lines.lines().count(), parts.len());
+    for (i, (line, path)) in lines.lines().zip(&parts).enumerate() {
+        let file = fs::read(path).expect("a part");
+        let nodes = file.len() / 12 - 1;
+        let (version, iso) = (
+            i % 2 + 1,
+            u16::from_le_bytes([file[12 * nodes], file[12 * nodes + 1]]),
+        );
+        let said =
+            format!("version {version} nodes {nodes} iso {iso}, read the same, written the same");
+        assert_eq!(line, said, "{}", path.display());
+    }
 }
 
 /// What the tour prints with some words replaced.
@@ -790,10 +987,11 @@ fn a_tour_of_a_refused_part() {
     let edits = [(end, &no_iso[..]), (check, "show_check(&part);")];
     let output = edited_tour("spoiled_tour", &edits);
     let sections: Vec<&str> = output.split("\n\n").collect();
-    assert_eq!(sections.len(), 16);
-    let counts = [1, 1, 1, 1, 4, 3, 4, 3, 4, 6];
-    let of_part = sections[1..9].iter().chain([&sections[10], &sections[12]]);
-    for (section, refused) in of_part.zip(counts) {
+    assert_eq!(sections.len(), 17);
+    let counts = [1, 1, 1, 1, 4, 3, 4, 3, 4, 6, 11];
+    let of_part = [&sections[1..9], &sections[10..11], &sections[12..14]].concat();
+    assert_eq!(of_part.len(), counts.len());
+    for (section, refused) in of_part.into_iter().zip(counts) {
         let lines = section.lines().rev().take(refused);
         let said = lines.filter(|line| line.contains("refused 5, ")).count();
         assert_eq!(said, refused, "{section}");
@@ -938,7 +1136,7 @@ fn the_marching_casts_of_the_tour() {
 fn the_worked_file_of_the_format() {
     let format = read("docs/FORMAT.md");
     let file = worked_file(&format);
-    assert_eq!((file.len(), part::check(&file)), (72, Ok((5, 768))));
+    assert_eq!((file.len(), checked(&file)), (72, Ok((5, 768))));
     let line = |bytes: &[u8]| {
         bytes
             .iter()
@@ -1081,6 +1279,7 @@ fn a_host_built_with_pkg_config() {
         "examples/desk/desk.c",
         "examples/desk/mistakes.txt",
         "examples/desk/bracket.drawing",
+        "examples/desk/softer.drawing",
     ];
     for file in placed {
         assert!(

@@ -188,6 +188,7 @@ pub unsafe extern "C" fn reference_write(
     numbers: *const i32,
     numbers_len: usize,
     iso: u32,
+    version: u32,
     buffer: *mut u8,
     buffer_len: usize,
     place: usize,
@@ -197,7 +198,7 @@ pub unsafe extern "C" fn reference_write(
         _ => slice::from_raw_parts(numbers, numbers_len),
     };
     let buffer = bytes_mut(buffer, buffer_len);
-    expected::write_number(numbers, iso, buffer, place)
+    expected::write_number(numbers, iso, version, buffer, place)
 }
 
 /// The number of a read.

@@ -27,8 +27,9 @@ fn read(file: &[u8]) {
 
 /// Writes what was read.
 fn write(file: &[u8]) {
-    let (iso, numbers) = write::read(file).expect("a part");
+    let (iso, version, numbers) = write::read(file).expect("a part");
+    let (iso, version) = (iso.into(), version.into());
     let mut buffer = [0; MOST_BYTES];
-    let end = entries::write(black_box(&numbers), iso.into(), &mut buffer, 0) - 65_536;
+    let end = entries::write(black_box(&numbers), iso, version, &mut buffer, 0) - 65_536;
     assert_eq!(&buffer[..end as usize], file);
 }

@@ -1,6 +1,6 @@
 //! The parts and the rays whose columns are made, casts or first hits.
 
-use crate::{depth, mean};
+use crate::{degrees, depth, mean};
 use reference::field::Ray;
 use reference::generate::{lattice, strut};
 use reference::part::{read, FileBuilder, Kind, Node, Part, OPERATORS, REACH};
@@ -46,6 +46,15 @@ impl Load {
             rays,
             ..*self
         }
+    }
+
+    /// The part as version 2, on the same rays.
+    pub fn softer(&self) -> Load {
+        let mut load = self.on(self.rays.clone());
+        let at = load.file.len() - 10;
+        load.file[at] = 2;
+        load.name += ", version 2";
+        load
     }
 
     /// A call on a ray: the probes, or samples, and the bytes it fills.
@@ -289,9 +298,18 @@ pub fn all() -> Vec<Load> {
     loads.flatten().collect()
 }
 
-/// The load of this name.
-pub fn named(name: &str) -> Load {
-    let mut loads = all().into_iter().chain(depth::loads());
+fn find(mut loads: impl Iterator<Item = Load>, name: &str) -> Load {
     let load = loads.find(|load| load.name == name);
     load.expect("the name of a load")
+}
+
+/// The load of this name whose part is of version 1.
+pub fn of_version_1(name: &str) -> Load {
+    find(all().into_iter(), name)
+}
+
+/// The load of this name.
+pub fn named(name: &str) -> Load {
+    let loads = all().into_iter().chain(depth::loads());
+    find(loads.chain(degrees::softer()), name)
 }

@@ -1,5 +1,5 @@
-//! What a column costs: the archive's, plain Rust's and that of samples; what
-//! the archive's two full casts cost, halving and marching; how many probes its
+//! What a column costs: the archive's, plain Rust's and that of samples, and of the same
+//! part in both degrees; what the archive's two full casts cost, halving and marching; how many probes its
 //! first hits make, by the hit's tick, and what they cost on rays of the depth
 //! images; what it takes to ask about a place, by its bounds and by rays whose ends
 //! coincide; and to check, read and write a file. What marks and bits
@@ -10,6 +10,7 @@
 
 mod casts;
 mod changes;
+mod degrees;
 mod depth;
 #[path = "../../tests/common/entries.rs"]
 mod entries;
@@ -294,6 +295,7 @@ fn print_tables() {
     print_growth("Growth with probes", &loads::cancelled());
     print_growth("Each operator", &loads::operators());
     casts::print_counted("Casts of each operator", &loads::operators());
+    degrees::print();
     print_far_points();
     print_points_in_reach();
     print_published();

@@ -69,7 +69,7 @@ fn overwrite_trailer(random: &mut SplitMix64, file: &mut [u8]) {
     for _ in 0..random.between(1, 2) {
         let at = file.len() - RECORD + random.pick(&[0, 0, 2, 4, 4, 6, 8, 10]);
         let any = random.next_u64() as u16;
-        let value = random.pick(&[0, 1, 2, 12, 24, 36, 60, 4096, 4097, 6144, 6156, any]);
+        let value = random.pick(&[0, 1, 2, 3, 12, 24, 36, 60, 4096, 4097, 6144, 6156, any]);
         file[at..at + 2].copy_from_slice(&value.to_le_bytes());
     }
 }

@@ -12,28 +12,36 @@ use std::collections::BTreeSet;
 /// A file and a place.
 type Scene = (FileBuilder, [i32; 3]);
 
-fn k() -> FileBuilder {
-    FileBuilder::new(1).point(512, [0; 3], 4)
+fn k(version: u16) -> FileBuilder {
+    FileBuilder::new(1).point(512, [0; 3], 4).version(version)
 }
 
 /// 64 points held at once that cancel: where their bounds are not exact, the place is
 /// left open.
-fn held() -> FileBuilder {
+fn held(version: u16) -> FileBuilder {
     let weight = |n: i32| if n % 2 == 0 { 4096 } else { -4096 };
     let add = |file: FileBuilder, n| file.point(1024, [-1, 0, 0], weight(n));
     let held = (0..64).fold(FileBuilder::new(1), add);
-    (1..64).fold(held, |file, _| file.sum())
+    (1..64).fold(held.version(version), |file, _| file.sum())
 }
 
-/// Empty places of file K, two of them at the limits of a coordinate, one inside it, and
-/// places left open: of K, of the 64 points, and where the bounds add up to twice the
-/// iso-value, to 1 less and to 1 more.
+/// Places of file K that its bounds leave open, in each version.
+const OPEN: [(u16, [i32; 3]); 2] = [(1, [362, 5, 2]), (2, [311, 5, 16])];
+
+/// In each version: empty places of file K, two of them at the limits of a coordinate, one
+/// inside it, and places left open: of K, of the 64 points, and where the bounds add up to
+/// twice the iso-value, to 1 less and to 1 more.
 fn places() -> Vec<Scene> {
-    let of_k = [[512, 0, 0], [2047; 3], [-2047; 3], [0; 3], [362, 5, 2]];
+    let of_version = |(version, open)| {
+        let of_k = [[512, 0, 0], [2047; 3], [-2047; 3], [0; 3], open];
+        let of_k = of_k.map(|at| (k(version), at));
+        of_k.into_iter().chain([(held(version), [40, 1, 0])])
+    };
     let of_sums = about_the_sum().map(|(file, _)| (file, [1, 0, 0]));
-    let of_k = of_k.map(|at| (k(), at));
-    let of_held = [(held(), [40, 1, 0])];
-    of_k.into_iter().chain(of_held).chain(of_sums).collect()
+    OPEN.into_iter()
+        .flat_map(of_version)
+        .chain(of_sums)
+        .collect()
 }
 
 /// A casting call on a file and a ray.
@@ -106,14 +114,17 @@ fn a_step_apart((file, a): Scene) -> Vec<Request> {
 
 /// Every such request.
 pub fn ends(random: &mut SplitMix64) -> Vec<Request> {
-    let apart = [(k(), [362, 5, 2]), (k(), [-1024, 32, -16])];
-    let apart = apart.into_iter().flat_map(a_step_apart);
+    let apart = OPEN.into_iter().flat_map(|(version, open)| {
+        let places = [open, [-1024, 32, -16]];
+        places.map(|at| (k(version), at))
+    });
+    let apart = apart.flat_map(a_step_apart);
     let requests: Vec<Request> = places()
         .into_iter()
         .flat_map(on_place)
         .chain(apart)
         .collect();
-    assert_eq!(requests.len(), 648);
+    assert_eq!(requests.len(), 1296);
     let answer = |request: Request| lent(random, request.answered());
     requests.into_iter().map(answer).collect()
 }

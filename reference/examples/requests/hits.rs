@@ -4,6 +4,7 @@
 
 use crate::drawn::lent;
 use crate::limits::of_steps;
+use crate::longest::cancelling;
 use crate::request::{Request, COUNTED, FIRST_HIT, VIEW};
 use reference::cast::{first_hit, FirstHit};
 use reference::field::Ray;
@@ -17,26 +18,45 @@ type Scene = (FileBuilder, [[i32; 3]; 2]);
 /// The calls that answer a first hit.
 pub const HITS: [u8; 4] = [FIRST_HIT, FIRST_HIT + COUNTED, VIEW, VIEW + COUNTED];
 
-/// File K: rays whose first tick holds its surface, outwards, inwards and aslant,
-/// one whose first tick ends before it, and the ray of document 01.
-fn of_k() -> [Scene; 5] {
+/// File K in each version: rays whose first tick holds its surface, outwards, inwards
+/// and aslant, one whose first tick ends before it, and the ray of document 01.
+fn of_k() -> [Scene; 10] {
+    let axis = [[-1024, 0, 0], [1024, 0, 0]];
     [
-        [[362, 0, 0], [1386, 0, 0]],
-        [[363, 0, 0], [-661, 0, 0]],
-        [[209, -209, 209], [1233, -1233, 1233]],
-        [[361, 0, 0], [1385, 0, 0]],
-        [[-1024, 0, 0], [1024, 0, 0]],
+        (1, [[362, 0, 0], [1386, 0, 0]]),
+        (1, [[363, 0, 0], [-661, 0, 0]]),
+        (1, [[209, -209, 209], [1233, -1233, 1233]]),
+        (1, [[361, 0, 0], [1385, 0, 0]]),
+        (1, axis),
+        (2, [[311, 0, 0], [1335, 0, 0]]),
+        (2, [[312, 0, 0], [-712, 0, 0]]),
+        (2, [[179, -179, 179], [1203, -1203, 1203]]),
+        (2, [[310, 0, 0], [1334, 0, 0]]),
+        (2, axis),
     ]
-    .map(|ends| (FileBuilder::new(1).point(512, [0; 3], 4), ends))
+    .map(|(version, ends)| {
+        let k = FileBuilder::new(1).point(512, [0; 3], 4);
+        (k.version(version), ends)
+    })
 }
+
+/// Where the beads lie, in each version.
+const BEADS: [&[i16]; 2] = [
+    &[411, 412, 413, 414, 418, 426, 455, 500, 589, 650, 700, 767],
+    &[301, 302, 310, 455, 600, 619],
+];
 
 /// Two points that cancel, and a bead on the ray: before it every tick is empty and
 /// every longer stretch undecided.
-fn before_bead(x: i16) -> Scene {
-    let file = FileBuilder::new(1).point(1024, [0; 3], 1425);
-    let file = file.point(1024, [0; 3], -1425).sum();
-    let file = file.point(1, [x, 0, 0], 4096).greater();
-    (file, [[410, 0, 0], [768, 0, 0]])
+fn before_beads() -> Vec<Scene> {
+    let scenes = cancelling().into_iter().zip(BEADS);
+    let scenes = scenes.flat_map(|((file, [from, to]), beads)| {
+        beads.iter().map(move |&x| {
+            let file = file.clone().point(1, [x, 0, 0], 4096).greater();
+            (file, [[from, 0, 0], [to, 0, 0]])
+        })
+    });
+    scenes.collect()
 }
 
 /// About the figure and about the probes that the hit takes, and always enough; at
@@ -69,10 +89,9 @@ fn on_scene((file, [a, b]): Scene) -> Vec<Request> {
 
 /// Every such request.
 pub fn hits(random: &mut SplitMix64) -> Vec<Request> {
-    let beads = [411, 412, 413, 414, 418, 426, 455, 500, 589, 650, 700, 767];
-    let scenes = of_k().into_iter().chain(beads.map(before_bead));
+    let scenes = of_k().into_iter().chain(before_beads());
     let requests: Vec<Request> = scenes.flat_map(on_scene).collect();
-    assert_eq!(requests.len(), 396);
+    assert_eq!(requests.len(), 660);
     let answer = |request: Request| lent(random, request.answered());
     requests.into_iter().map(answer).collect()
 }

@@ -31,6 +31,7 @@ pub enum What {
     Float,
     GivenCount,
     GivenRemainder,
+    GivenVersion,
     GivenIso,
     GivenKind,
     GivenZero,
@@ -104,6 +105,15 @@ const OF_FLOATS: &[[i64; 2]] = &[[0, 1], [0, 2], [0, 3], [0, 4], [0, 5]];
 /// The last pairs are of numbers that fewer bits do not tell apart.
 const OF_GIVEN_REACH: &[[i64; 2]] = &[[2047, 2048], [-2047, -2048], [0, 65_536]];
 const OF_GIVEN_WEIGHT: &[[i64; 2]] = &[[4096, 4097], [-4096, -4097], [0, 65_536]];
+const OF_GIVEN_VERSION: &[[i64; 2]] = &[
+    [1, 0],
+    [2, 3],
+    [1, 257],
+    [1, 65_537],
+    [2, 65_538],
+    [1, ALL_BITS],
+];
+const ALL_BITS: i64 = 0xffff_ffff;
 
 fn in_steps(call: u8) -> bool {
     casting(call).is_some_and(|which| which != VIEW)
@@ -111,10 +121,10 @@ fn in_steps(call: u8) -> bool {
 
 /// All that is limited, in the questions' order.
 #[rustfmt::skip]
-pub const ALL: [Limited; 34] = [
+pub const ALL: [Limited; 35] = [
     one(What::Length, 1, "the file's length", 24..=65_536, &[[24, 23], [65_536, 65_537]]),
     one(What::Mark, 2, "the mark's four bytes", 0..=0, &[[0, 1]]).members(4),
-    one(What::Version, 3, "the version", 1..=1, &[[1, 0], [1, 2], [1, 257]]),
+    one(What::Version, 3, "the version", 1..=2, &[[1, 0], [2, 3], [1, 257], [2, 258]]),
     one(What::Distance, 4, "the distance back", 24..=6144, &[[24, 12], [6144, 6156]]),
     one(What::Remainder, 4, "the distance's remainder by 12", 0..=0, &[[0, 1], [0, 11]]),
     one(What::Beyond, 4, "the distance less the length", -MOST..=0, &[[0, 12]]),
@@ -142,6 +152,7 @@ pub const ALL: [Limited; 34] = [
         .asked_by(|call| casting(call) == Some(VIEW)),
     one(What::GivenCount, 16, "the number count", 6..=3066, &[[6, 0], [3066, 3072]]).in_a_write(),
     one(What::GivenRemainder, 16, "its remainder by six", 0..=0, &[[0, 1], [0, 5]]).in_a_write(),
+    one(What::GivenVersion, 3, "a write's version", 1..=2, OF_GIVEN_VERSION).in_a_write(),
     one(What::GivenIso, 5, "a write's iso", 1..=4096, &[[1, 0], [4096, 4097], [1, 65_537]]).in_a_write(),
     one(What::GivenKind, 6, "a node's kind", 1..=5, &[[1, 0], [5, 6], [1, 257]]).in_a_write(),
     one(What::GivenZero, 7, "an operator's other numbers", 0..=0, &[[0, 1], [0, -1], [0, 65_536]])
@@ -159,7 +170,7 @@ pub const ALL: [Limited; 34] = [
 impl What {
     /// Its row of `ALL`.
     pub fn limited(self) -> &'static Limited {
-        static ROWS: [Limited; 34] = ALL;
+        static ROWS: [Limited; 35] = ALL;
         let row = &ROWS[self as usize];
         assert_eq!(row.what, self);
         row

@@ -12,8 +12,8 @@ use reference::part::{FILE_MARK, OPERATORS, RECORD};
 type Files = Vec<[Vec<u8>; 2]>;
 
 /// A slanted ray through the points below.
-const A: [i32; 3] = [-1024, 32, -16];
-const B: [i32; 3] = [1024, -96, 144];
+pub const A: [i32; 3] = [-1024, 32, -16];
+pub const B: [i32; 3] = [1024, -96, 144];
 /// The greatest size of a coordinate.
 const REACH: i32 = 2047;
 
@@ -67,7 +67,7 @@ fn of_file(call: u8) -> Vec<Request> {
 }
 
 /// Two points and their sum.
-fn whole() -> FileBuilder {
+pub fn whole() -> FileBuilder {
     FileBuilder::new(3).raw(wide()).raw(narrow()).sum()
 }
 
@@ -115,8 +115,8 @@ fn trailers() -> Files {
         mark[i] ^= 1;
         files.push(and_whole(whole().mark(mark)));
     }
-    for version in [0, 2, 257] {
-        files.push(and_whole(whole().version(version)));
+    for pair in [[1, 0], [2, 3], [1, 257], [2, 258]] {
+        files.push(pair.map(|version| whole().version(version).build()));
     }
     for pair in [[1, 0], [4096, 4097]] {
         files.push(pair.map(|iso| whole().iso(iso).build()));

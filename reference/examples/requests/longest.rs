@@ -1,4 +1,4 @@
-//! Casts that need the most probes, with budgets that are just enough and too
+//! Casts that need the most probes, in each version, with budgets that are just enough and too
 //! small by one; a march also with the most probes of the other casts.
 
 use crate::drawn::lent;
@@ -10,18 +10,20 @@ use reference::part::FileBuilder;
 /// A file, and the x of the ends of a ray along the x axis.
 type Scene = (Vec<u8>, [i32; 2]);
 
-/// Two points that cancel: every tick is empty, and every longer stretch
-/// undecided.
-fn empty_everywhere() -> Scene {
-    let file = FileBuilder::new(1).point(1024, [0; 3], 1425);
-    let file = file.point(1024, [0; 3], -1425).sum().build();
-    (file, [410, 768])
+/// Two points that cancel, in each version: every tick of the ray is empty, and every
+/// longer stretch undecided.
+pub fn cancelling() -> [(FileBuilder, [i32; 2]); 2] {
+    [(1, 1425, [410, 768]), (2, 1500, [300, 620])].map(|(version, w, ends)| {
+        let file = FileBuilder::new(1).point(1024, [0; 3], w);
+        let file = file.point(1024, [0; 3], -w).sum();
+        (file.version(version), ends)
+    })
 }
 
 /// A point near the ray, which is one step long: every tick is crossing.
-fn crossing_everywhere() -> Scene {
-    let file = FileBuilder::new(1).point(1024, [2, 0, 0], 1).build();
-    (file, [0, 1])
+fn crossing_everywhere(version: u16) -> Scene {
+    let file = FileBuilder::new(1).point(1024, [2, 0, 0], 1);
+    (file.version(version).build(), [0, 1])
 }
 
 /// The budgets of a call, the last one its most probes; a column has none.
@@ -48,7 +50,9 @@ fn on_scene((file, [from, to]): Scene) -> impl Iterator<Item = Request> {
 
 /// Every such request.
 pub fn longest(random: &mut SplitMix64) -> Vec<Request> {
-    let casts = on_scene(empty_everywhere()).chain(on_scene(crossing_everywhere()));
+    let empty = cancelling().map(|(file, ends)| (file.build(), ends));
+    let scenes = empty.into_iter().chain([1, 2].map(crossing_everywhere));
+    let casts = scenes.flat_map(on_scene);
     let with_budget = |cast: Request| {
         budgets(cast.call).iter().map(move |&budget| Request {
             budget,
@@ -56,7 +60,7 @@ pub fn longest(random: &mut SplitMix64) -> Vec<Request> {
         })
     };
     let requests: Vec<Request> = casts.flat_map(with_budget).collect();
-    assert_eq!(requests.len(), 32);
+    assert_eq!(requests.len(), 64);
     let answer = |request: Request| lent(random, request.answered());
     requests.into_iter().map(answer).collect()
 }

@@ -107,7 +107,7 @@ impl Look {
         self.see(What::Weight, 0, signed(10));
     }
 
-    /// The count, the iso-value, every node, faulty or not, and the place.
+    /// The count, the version, the iso-value, every node, faulty or not, and the place.
     fn write(&mut self, request: &Request) {
         let numbers = &request.drawing.numbers;
         self.see(What::GivenCount, 0, numbers.len() as i64);
@@ -119,6 +119,7 @@ impl Look {
         if !self.wrong.is_empty() {
             return;
         }
+        self.see(What::GivenVersion, 0, i64::from(request.drawing.version));
         self.see(What::GivenIso, 0, i64::from(request.drawing.iso));
         self.nodes(numbers);
         let bytes = RECORD * (numbers.len() / NODE_NUMBERS + 1);

@@ -1,18 +1,19 @@
 //! A stream of requests with the reference's answers, for `robust/replay.c`:
 //! those at the limits of the questions, casts of the most probes, columns at the
 //! limits of the rule for their middles, first hits at the figure of their probes,
-//! rays whose ends coincide or are a step apart, then N on damaged files, drawings
+//! rays whose ends coincide or are a step apart, those with a wrong version and one
+//! fault more, then N on damaged files, drawings
 //! and saved records, and one on a whole file, drawing or record after each seven
 //! of them.
 //!
 //!     cargo run --release --offline --example requests -- N SEED > STREAM
 //!
 //! How often each side of each limit occurs, each step of a total to its ceiling,
-//! each limit of a middle, each of a first hit's figure and each way that a ray's ends
-//! coincide or are a step apart, is counted and printed to standard error; where one
-//! does not, the program fails.
+//! each limit of a middle, each of a first hit's figure, each way that a ray's ends
+//! coincide or are a step apart and each version, is counted and printed to standard
+//! error; where one does not, the program fails.
 //!
-//! Every number is little-endian. A request is 108 bytes, then the file, or the
+//! Every number is little-endian. A request is 112 bytes, then the file, or the
 //! numbers that a write is given, four bytes each, or the saved record, then the
 //! bytes that the call writes:
 //!
@@ -30,6 +31,7 @@
 //! | 72 | 24 | the totals after |
 //! | 96 | 4 | how many bytes the call writes |
 //! | 100 | 8 | the place of a write; the bytes that the call writes begin there |
+//! | 108 | 4 | the version of a write |
 //!
 //! The calls are 0 full cast, 1 first hit, 2 column, 3 marching cast, 4 viewer's
 //! first hit; 5 to 9 the same, counted; 10 check, 11 bounds, 12 write, 13 read,
@@ -52,12 +54,14 @@ mod limits;
 mod longest;
 mod look;
 mod middles;
+mod orders;
 mod reached;
 mod request;
 #[path = "../../tests/common/requests.rs"]
 mod requests;
 mod sides;
 mod sums;
+mod versions;
 mod write_limits;
 
 use apart::Apart;
@@ -67,12 +71,14 @@ use ends::ends;
 use hits::hits;
 use longest::longest;
 use middles::middles;
+use orders::orders;
 use reached::Reached;
 use reference::generate::SplitMix64;
 use request::Request;
 use sides::{least, Sides};
 use std::io::{self, BufWriter, Write};
 use sums::Sums;
+use versions::Versions;
 
 /// Writes requests and counts them.
 struct Stream<W: Write> {
@@ -82,6 +88,7 @@ struct Stream<W: Write> {
     sums: Sums,
     costs: Costs,
     apart: Apart,
+    versions: Versions,
     requests: u64,
 }
 
@@ -93,6 +100,7 @@ impl<W: Write> Stream<W> {
         self.sums.count(request);
         self.costs.count(request);
         self.apart.count(request);
+        self.versions.count(request);
         request.write(&mut self.to)
     }
 
@@ -100,19 +108,22 @@ impl<W: Write> Stream<W> {
     fn counts(&self) -> Vec<(i64, String)> {
         let [sides, reached] = [self.sides.counts(), self.reached.counts()];
         let [sums, costs] = [self.sums.counts(), self.costs.counts()];
-        [sides, reached, sums, costs, self.apart.counts()].concat()
+        let [apart, versions] = [self.apart.counts(), self.versions.counts()];
+        [sides, reached, sums, costs, apart, versions].concat()
     }
 
     /// The same, taken together.
     fn tables(&self) -> String {
         let [sides, reached] = [self.sides.table(), self.reached.table()];
         let [sums, costs] = [self.sums.table(), self.costs.table()];
-        [sides, reached, sums, costs, self.apart.table()].join("\n")
+        let [apart, versions] = [self.apart.table(), self.versions.table()];
+        [sides, reached, sums, costs, apart, versions].join("\n")
     }
 
     /// Every request of the stream.
     fn put_all(&mut self, random: &mut SplitMix64, damaged: u64) -> io::Result<()> {
-        let first = [limits::at_limits, longest, middles, hits, ends].map(|made| made(random));
+        let first = [limits::at_limits, longest, middles, hits, ends, orders];
+        let first = first.map(|made| made(random));
         let mut first = first.iter().flatten();
         first.try_for_each(|request| self.put(request))?;
         for i in 1..=damaged {
@@ -140,6 +151,7 @@ fn main() -> io::Result<()> {
         sums: Sums::default(),
         costs: Costs::default(),
         apart: Apart::default(),
+        versions: Versions::default(),
         requests: 0,
     };
     stream.put_all(&mut SplitMix64::new(seed), damaged)?;
@@ -147,7 +159,7 @@ fn main() -> io::Result<()> {
     let least = least(stream.counts().into_iter()).map_err(io::Error::other)?;
     eprintln!(
         "{} requests, {least} or more on each side of each limit, of each step of a total, at each limit of a middle, at each of a \
-         first hit's figure and of each kind of ends, in each call that has it",
+         first hit's figure, of each kind of ends and of each version, in each call that has it",
         stream.requests
     );
     Ok(())

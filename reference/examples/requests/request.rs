@@ -142,8 +142,9 @@ impl Request {
 
     /// The number of the write.
     fn write_to(&self, buffer: &mut [u8]) -> u64 {
-        let Drawing { numbers, iso } = &self.drawing;
-        write_number(numbers, *iso, buffer, self.place).into()
+        let drawing = &self.drawing;
+        let (iso, version) = (drawing.iso, drawing.version);
+        write_number(&drawing.numbers, iso, version, buffer, self.place).into()
     }
 
     /// The number of the saved record, read into the totals.
@@ -193,9 +194,9 @@ impl Request {
     /// Writes the request as the stream's form says.
     pub fn write(&self, to: &mut impl Write) -> io::Result<()> {
         let handed = self.handed();
-        let limit = match self.call {
-            WRITE => self.drawing.iso,
-            _ => self.budget,
+        let [limit, version] = match self.call {
+            WRITE => [self.drawing.iso, self.drawing.version],
+            _ => [self.budget, 0],
         };
         to.write_all(&[self.call, u8::from(self.damaged), 0, 0])?;
         write_numbers(to, &[handed.len() as u32])?;
@@ -206,6 +207,7 @@ impl Request {
         write_totals(to, self.after())?;
         write_numbers(to, &[self.written.len() as u32])?;
         to.write_all(&(self.place as u64).to_le_bytes())?;
+        write_numbers(to, &[version])?;
         to.write_all(&handed)?;
         to.write_all(&self.written)
     }

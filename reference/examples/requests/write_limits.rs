@@ -12,7 +12,8 @@ const OPERATORS: [i32; 4] = [2, 3, 4, 5];
 
 /// Every write of the list, the two of a pair one after the other.
 pub fn writes() -> Vec<Request> {
-    let all = [counts(), isos(), kinds(), zeros(), points(), held()].concat();
+    let all = [counts(), versions(), isos(), kinds()];
+    let all = [all.concat(), zeros(), points(), held()].concat();
     let room = |drawing: &Drawing| drawing.bytes() + 20;
     let drawings = all.into_iter().flatten();
     let at_start = drawings.map(|drawing| write(room(&drawing), 0, drawing));
@@ -41,6 +42,7 @@ fn counts() -> Pairs {
     let first = |count: usize| Drawing {
         numbers: joined(operator(2)).numbers[..count].to_vec(),
         iso: 1,
+        version: 1,
     };
     vec![
         [one.clone(), first(0)],
@@ -48,6 +50,23 @@ fn counts() -> Pairs {
         [one.clone(), first(7)],
         [one, first(11)],
     ]
+}
+
+/// Question 3.
+fn versions() -> Pairs {
+    let with_version = |version| Drawing {
+        version,
+        ..joined(operator(4))
+    };
+    let pairs = [
+        [1, 0],
+        [2, 3],
+        [1, 257],
+        [1, 65_537],
+        [2, 65_538],
+        [1, u32::MAX],
+    ];
+    pairs.map(|pair| pair.map(with_version)).to_vec()
 }
 
 /// Question 5.

@@ -1,8 +1,8 @@
 /* Columns through the C entries, for the test c_interface: columns PART...
  *
  * Without PART: file K's on the ray from (-1024, 0, 0) to (1024, 0, 0), plain and
- * counted, and that of a strut between two middles, each with the runs of its
- * marks and of its solid ticks. Of each PART: columns of rays that are 2,048 steps
+ * counted, that of a strut between two middles and that of file K of degree 6, each
+ * with the runs of its marks and of its solid ticks. Of each PART: columns of rays that are 2,048 steps
  * long, so that every middle is a whole step, each bit of which is worked out
  * again from the tick's mark and the bounds at its middle. */
 #include "fenalukki.h"
@@ -24,6 +24,10 @@ static const uint8_t k[24] = {1, 0, 0, 2, 0, 0, 0, 0, 0, 0, 4, 0,
 /* The same point with the radius 1: solid to 0.7 steps from the origin. */
 static const uint8_t strut[24] = {1, 0, 1, 0, 0, 0, 0, 0, 0, 0, 4, 0,
                                   1, 0, 1, 0, 24, 0, 0, 0, 0x54, 0x52, 0x45, 0x45};
+
+/* File K as version 2: degree 6. */
+static const uint8_t softer[24] = {1, 0, 0, 2, 0, 0, 0, 0, 0, 0, 4, 0,
+                                   1, 0, 2, 0, 24, 0, 0, 0, 0x54, 0x52, 0x45, 0x45};
 
 /* Along x, at a height and a depth. Returns the column's number, or 0 where the
  * full cast has another one. */
@@ -142,6 +146,7 @@ int main(int argc, char **argv)
         print_column("K", k, sizeof k);
         print_counted();
         print_column("strut", strut, sizeof strut);
+        print_column("softer", softer, sizeof softer);
     }
     return 0;
 }

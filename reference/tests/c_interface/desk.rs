@@ -1,6 +1,6 @@
 //! The desk tool: parts read and written again, drawings written in other ways, each mistake with its line and its words, statuses.
 
-use super::{c99, read, root, temporary, text};
+use super::{as_version, c99, read, root, temporary, text, version_of};
 use reference::generate::{self, Shape, SplitMix64};
 use reference::part::{FileBuilder, Node, Part, RECORD};
 use std::ffi::OsStr;
@@ -75,31 +75,35 @@ fn every_part_is_read_and_written_again() {
     assert_eq!(parts.len(), 6);
     for path in parts {
         let file = fs::read(&path).expect("a part");
-        let drawing = desk.drawing_of(&file);
-        let again = desk.part_of(drawing.as_bytes());
-        assert_eq!(again.as_ref(), Ok(&file), "{}", path.display());
+        for file in [file.clone(), as_version(file, 2)] {
+            let drawing = desk.drawing_of(&file);
+            let again = desk.part_of(drawing.as_bytes());
+            assert_eq!(again.as_ref(), Ok(&file), "{}", path.display());
+        }
     }
 }
 
-/// Each drawing of the examples is the part of its name, where there is one, and three.drawing is the format's worked file.
+/// Each drawing of the examples is the part of its name, where there is one, three.drawing is the format's worked file, and softer.drawing
+/// that as version 2.
 #[test]
 fn the_drawings_of_the_examples() {
     let desk = desk("drawings");
     let drawings = files("examples/desk", "drawing");
-    assert_eq!(drawings.len(), 3);
+    assert_eq!(drawings.len(), 4);
     for path in drawings {
         let name = path.file_stem().and_then(OsStr::to_str).expect("a name");
         let part = desk.part_of(&fs::read(&path).expect("a drawing"));
         let expected = match name {
             "three" => super::worked_file(&read("docs/FORMAT.md")),
+            "softer" => as_version(super::worked_file(&read("docs/FORMAT.md")), 2),
             name => fs::read(root().join(format!("examples/parts/{name}.part"))).expect(name),
         };
         assert_eq!(part, Ok(expected), "{name}");
     }
 }
 
-/// What the tool has to print for a part.
-fn drawn(part: &Part) -> String {
+/// What the tool has to print for a part of a version; 1 is not said.
+fn drawn(part: &Part, version: u16) -> String {
     let words = ["", "point", "sum", "greater", "lesser", "cut"];
     let line = |node: &Node| match node.kind as usize {
         1 => {
@@ -109,7 +113,11 @@ fn drawn(part: &Part) -> String {
         kind => format!("{}\n", words[kind]),
     };
     let lines: String = part.nodes.iter().map(line).collect();
-    format!("iso {}\n{lines}", part.iso)
+    let version = match version {
+        1 => String::new(),
+        other => format!("version {other}\n"),
+    };
+    format!("iso {}\n{version}{lines}", part.iso)
 }
 
 /// Of generated parts of up to 256 points, one in three with leading bytes.
@@ -132,13 +140,13 @@ fn generated_parts_are_read_and_written_again() {
             0
         } as usize;
         let file = FileBuilder::from(&part).leading(&vec![0xee; leading]);
-        let file = file.build();
+        let file = as_version(file.build(), [1, 2][i / 2 % 2]);
         let drawing = desk.drawing_of(&file);
         let comment = match leading {
             0 => String::new(),
             n => format!("# without the {n} bytes before the first record\n"),
         };
-        assert_eq!(drawing, comment + &drawn(&part));
+        assert_eq!(drawing, comment + &drawn(&part, version_of(&file)));
         assert_eq!(file.len() - leading, RECORD * (part.nodes.len() + 1));
         assert_eq!(
             desk.part_of(drawing.as_bytes()),
@@ -168,10 +176,36 @@ fn drawings_written_in_other_ways() {
         format!("{plain}# no line end"),
         format!("# {}\n{plain}", "long ".repeat(100_000)),
     ];
-    for other in others {
+    let iso = "iso 768\n";
+    let versions = [
+        "iso 768\nversion 1\n",
+        "version 1\niso 768\n",
+        "iso 768\n#\n  version\t+01 # 2\n",
+    ];
+    let versions = versions.map(|lines| plain.replace(iso, lines));
+    for other in others.into_iter().chain(versions) {
         let shown: String = other.chars().take(200).collect();
         assert_eq!(desk.part_of(other.as_bytes()), part, "{shown}");
     }
+}
+
+/// `version 2` before and after the iso-value, wherever a line may stand before the first node.
+#[test]
+fn drawings_of_version_2() {
+    let desk = desk("versions");
+    let point = "point 640 -320 -256 0 1024\n";
+    let plain = desk.part_of(format!("iso 768\n{point}").as_bytes());
+    let softer = plain.map(|part| as_version(part, 2));
+    for first in [
+        "iso 768\nversion 2\n",
+        "version 2\niso 768\n",
+        "\nversion 2\n# 1\niso 768\n\n",
+    ] {
+        let drawing = format!("{first}{point}");
+        assert_eq!(desk.part_of(drawing.as_bytes()), softer, "{drawing}");
+    }
+    let drawing = desk.drawing_of(&softer.expect("a part"));
+    assert_eq!(drawing, format!("iso 768\nversion 2\n{point}"));
 }
 
 /// The wrong drawings of `examples/desk/mistakes.txt`, each with its answer.
@@ -196,7 +230,7 @@ fn mistakes(table: &str) -> Vec<(String, String)> {
 fn mistakes_are_answered_with_their_line_and_words() {
     let desk = desk("mistakes");
     let all = mistakes(&read("examples/desk/mistakes.txt"));
-    assert!(all.len() >= 50);
+    assert!(all.len() >= 65);
     for (drawing, answer) in all {
         assert_eq!(
             desk.part_of(drawing.as_bytes()),

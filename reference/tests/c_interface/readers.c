@@ -19,12 +19,12 @@ static const uint8_t k[24] = {1, 0, 0, 2, 0, 0, 0, 0, 0, 0, 4, 0,
 
 static void print_number(uint64_t number)
 {
-    printf("%d %lu %d %d %d %d %.10g %d %d %lu %d %s\n", fenalukki_refusal(number),
+    printf("%d %lu %d %d %d %d %.10g %d %d %d %lu %d %s\n", fenalukki_refusal(number),
            (unsigned long)fenalukki_probes(number), fenalukki_is_spent(number),
            fenalukki_k(number), fenalukki_tick(number), fenalukki_mark(number),
            (double)fenalukki_place(number), fenalukki_nodes(number), fenalukki_iso(number),
-           (unsigned long)fenalukki_end(number), second_unit(number),
-           fenalukki_refusal_text(number));
+           fenalukki_file_version(number), (unsigned long)fenalukki_end(number),
+           second_unit(number), fenalukki_refusal_text(number));
 }
 
 static void print_reached(int tick)

@@ -3,7 +3,7 @@
 #include "fenalukki.h"
 #include "fenalukki.h"
 
-#if FENALUKKI_VERSION_NUMBER < 40000 || FENALUKKI_REFUSED_SAVED != FENALUKKI_REFUSALS
+#if FENALUKKI_VERSION_NUMBER < 50000 || FENALUKKI_REFUSED_SAVED != FENALUKKI_REFUSALS
 #error "names of fenalukki.h do not agree"
 #endif
 
@@ -13,6 +13,14 @@
 
 #ifdef FENALUKKI_REFUSED_EQUAL_ENDS
 #error "fenalukki.h has a name for 13, which is not given"
+#endif
+
+#ifdef FENALUKKI_FILE_VERSION
+#error "fenalukki.h has a name for the one version of a file, which has two"
+#endif
+
+#if FENALUKKI_FILE_VERSION_DEGREE_4 != 1 || FENALUKKI_FILE_VERSION_DEGREE_6 != 2
+#error "names of the versions of a file do not agree"
 #endif
 
 enum { MARKS = FENALUKKI_MARKS_BYTES };
