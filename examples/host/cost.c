@@ -99,8 +99,8 @@ static uint64_t hard_hit(int32_t x, int32_t r)
         {FENALUKKI_KIND_POINT, r, x + r, 0, 0, 4096},
         {FENALUKKI_KIND_GREATER, 0, 0, 0, 0, 0},
     };
-    uint32_t number = fenalukki_write(nodes[0], HARD_NODES * FENALUKKI_NUMBERS_PER_NODE, 1, file,
-                                      sizeof file, 0);
+    uint32_t number = fenalukki_write(nodes[0], HARD_NODES * FENALUKKI_NUMBERS_PER_NODE, 1,
+                                      FENALUKKI_FILE_VERSION_DEGREE_4, file, sizeof file, 0);
 
     if (fenalukki_refusal(number))
         return number;

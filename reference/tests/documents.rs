@@ -87,12 +87,12 @@ fn the_readme_shows_every_part_and_picture() {
     let readme = read("README.md");
     let parts = names("examples/parts", ".part");
     let pictures = names("docs/pictures", ".png");
-    assert_eq!((parts.len(), pictures.len()), (6, 20));
+    assert_eq!((parts.len(), pictures.len()), (8, 22));
     let parts = parts.iter().map(|name| format!("| `{name}`: "));
     let pictures = pictures
         .iter()
         .map(|name| format!("src=\"docs/pictures/{name}\""));
-    let counts = ["makes six part files", "writes twenty pictures"].map(String::from);
+    let counts = ["makes eight part files", "writes twenty-two pictures"].map(String::from);
     for shown in parts.chain(pictures).chain(counts) {
         assert!(readme.contains(&shown), "{shown}");
     }

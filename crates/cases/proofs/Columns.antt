@@ -92,14 +92,14 @@ pub solid-ticks : map (bitOf (solidOf fileK) (across (pos 0)) (2 ^ exponent)) (t
     ≡ replicate 331 0 ++ replicate 362 1 ++ replicate 331 0
 unfolding
     ticksFrom u16 u32 i16 isPoint iso distance start count nodeAt zeroBytes recordAt recordsFrom nodesFrom nodes ceil operatorOf itemOf items joinTop
-    step run treeValue version kernelOf raySquare prepare distanceAt footInside footDistance lowQ highQ qlo qhi weighted pointBounds joinBounds treeBounds
-    stateOf spanState markOf solidBy middleSolid tickBit bitOf
+    step run treeValue version kernelOf raySquare prepare distanceAt footInside footDistance lowQ highQ qlo qhi weighted pointBounds joinBounds
+    treeBounds stateOf spanState markOf solidBy middleSolid tickBit bitOf
 solid-ticks = refl
 
 -- the strut's ticks are marked; their bits are 0 in the row of `columns`
 pub strut-marked : rayMarks (solidOf strut) wide exponent ≡ replicate 511 emptyMark ++ replicate 2 crossingMark ++ replicate 511 emptyMark
 unfolding
-    u16 u32 i16 isPoint iso distance start count nodeAt zeroBytes recordAt recordsFrom nodesFrom nodes ceil operatorOf itemOf items joinTop
-    step run treeValue version kernelOf raySquare prepare distanceAt footInside footDistance lowQ highQ qlo qhi weighted pointBounds joinBounds treeBounds
+    u16 u32 i16 isPoint iso distance start count nodeAt zeroBytes recordAt recordsFrom nodesFrom nodes ceil operatorOf itemOf items joinTop step run
+    treeValue version kernelOf raySquare prepare distanceAt footInside footDistance lowQ highQ qlo qhi weighted pointBounds joinBounds treeBounds
     stateOf spanState rayState spanMarks
 strut-marked = refl

@@ -1,4 +1,5 @@
--- Worked files as rows of a table that one theorem covers (document 01, "Rays and places tried"; document 02, P9): a file, and what its check answers.
+-- Worked files as rows of a table that one theorem covers (document 01, "Rays and places tried"; document 02, P9): a file, and what its check
+-- answers.
 use Prim.Native.Nat.{ℕ, zero, suc, _<_}
 use mathlib.Core.Path.{_≡_, refl, ap, _∙_}
 use mathlib.Core.List.{List, [], _∷_, _++_, map}

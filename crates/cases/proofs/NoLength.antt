@@ -1,6 +1,7 @@
 -- Rays whose ends coincide (document 02, P8), at places of file K, as rows of a table that one theorem covers (`placed`): a place, a budget, and what
--- each call answers and leaves, computed on the definitions. And wrong answers on such rays that the contracts refute: 13 (`cast-13`, `hit-13`,
--- `column-13`, `view-13`), by field `counted` of each; "empty" and "clear" at the centre (`cast-missed`, `hit-missed`), by `alone`.
+-- full cast, marching cast, first hit and column answer and leave, computed on the definitions. And wrong answers on such rays that the contracts
+-- refute: 13 (`cast-13`, `hit-13`, `column-13`, `view-13`), by field `counted` of each; "empty" and "clear" at the centre (`cast-missed`,
+-- `hit-missed`), by `alone`.
 use mathlib.Core.Path.{_≡_, refl, sym, _∙_}
 use mathlib.Core.Logic.{inl, inr}
 use mathlib.Core.List.{List, [], _∷_, _++_, map}
@@ -185,8 +186,8 @@ view-13 file ray d = elim (d .counted) [ inl c ↦ omega (arith, c .1) | inr c �
 stay-inside : markOf K stay 1024 0 ≡ insideMark
 unfolding
     u16 u32 i16 isPoint iso distance start count nodeAt zeroBytes recordAt recordsFrom nodesFrom nodes ceil operatorOf itemOf items joinTop step run
-    treeValue version kernelOf raySquare prepare distanceAt footInside footDistance lowQ highQ qlo qhi weighted pointBounds joinBounds treeBounds stateOf
-    spanState markOf
+    treeValue version kernelOf raySquare prepare distanceAt footInside footDistance lowQ highQ qlo qhi weighted pointBounds joinBounds treeBounds
+    stateOf spanState markOf
 stay-inside = refl
 
 -- equal ends marked empty

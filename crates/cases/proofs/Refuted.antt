@@ -92,8 +92,8 @@ marks-are : (markOf K ray 1024 330 ≡ crossingMark) × (markOf K ray 1024 400 �
     × (markOf K ray 1024 0 ≡ emptyMark)
 unfolding
     u16 u32 i16 isPoint iso distance start count nodeAt zeroBytes recordAt recordsFrom nodesFrom nodes ceil operatorOf itemOf items joinTop step run
-    treeValue version kernelOf raySquare prepare distanceAt footInside footDistance lowQ highQ qlo qhi weighted pointBounds joinBounds treeBounds stateOf
-    spanState markOf
+    treeValue version kernelOf raySquare prepare distanceAt footInside footDistance lowQ highQ qlo qhi weighted pointBounds joinBounds treeBounds
+    stateOf spanState markOf
 marks-are = (refl, refl, refl, refl)
 
 -- the probe count of the ray, and how many ticks are looked at with a budget of 14 and of 15
@@ -101,16 +101,16 @@ counts-are : (rayProbes K ray exponent ≡ 39)
     × (castLookedAt 1024 (rayWalk K ray exponent 14) ≡ 330) × (castLookedAt 1024 (rayWalk K ray exponent 15) ≡ 331)
 unfolding
     u16 u32 i16 isPoint iso distance start count nodeAt zeroBytes recordAt recordsFrom nodesFrom nodes ceil operatorOf itemOf items joinTop step run
-    treeValue version kernelOf raySquare prepare distanceAt footInside footDistance lowQ highQ qlo qhi weighted pointBounds joinBounds treeBounds stateOf
-    spanState rayState probeCount walk castLookedAt
+    treeValue version kernelOf raySquare prepare distanceAt footInside footDistance lowQ highQ qlo qhi weighted pointBounds joinBounds treeBounds
+    stateOf spanState rayState probeCount walk castLookedAt
 counts-are = (refl, refl, refl)
 
 -- the marching cast's probe count of it, and the full cast's mark of a tick
 marched-are : (marchProbes K ray exponent ≡ 49) × (getD (rayMarks K ray exponent) 600 notLookedAt ≡ insideMark)
 unfolding
     u16 u32 i16 isPoint iso distance start count nodeAt zeroBytes recordAt recordsFrom nodesFrom nodes ceil operatorOf itemOf items joinTop step run
-    treeValue version kernelOf raySquare prepare distanceAt footInside footDistance lowQ highQ qlo qhi weighted pointBounds joinBounds treeBounds stateOf
-    spanState rayState spanMarks nextTick nextLength countFrom
+    treeValue version kernelOf raySquare prepare distanceAt footInside footDistance lowQ highQ qlo qhi weighted pointBounds joinBounds treeBounds
+    stateOf spanState rayState spanMarks nextTick nextLength countFrom
 marched-are = (refl, refl)
 
 -- the place 0/1, the ray's start, in tick 0
@@ -280,8 +280,8 @@ module _ {budget : ℕ} where
 bits-are : (bitOf K ray 1024 330 ≡ 0) × (bitOf K ray 1024 400 ≡ 1)
 unfolding
     u16 u32 i16 isPoint iso distance start count nodeAt zeroBytes recordAt recordsFrom nodesFrom nodes ceil operatorOf itemOf items joinTop step run
-    treeValue version kernelOf raySquare prepare distanceAt footInside footDistance lowQ highQ qlo qhi weighted pointBounds joinBounds treeBounds stateOf
-    spanState markOf solidBy middleSolid tickBit bitOf
+    treeValue version kernelOf raySquare prepare distanceAt footInside footDistance lowQ highQ qlo qhi weighted pointBounds joinBounds treeBounds
+    stateOf spanState markOf solidBy middleSolid tickBit bitOf
 bits-are = (refl, refl)
 
 -- the exact field at the middles of ticks 0 and 512, and the rounding: 4 × 1/16384

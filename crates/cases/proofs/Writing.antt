@@ -1,7 +1,7 @@
--- Worked writes as rows of a table that one theorem covers (document 02, P2 and P9): numbers, iso-value, version, the buffer's length, the place, and what the
--- questions answer; the bytes of two parts; and wrong bytes that the writer's promise refutes, each by one of its fields:
+-- Worked writes as rows of a table that one theorem covers (document 02, P2 and P9): numbers, iso-value, version, the buffer's length, the
+-- place, and what the questions answer; the bytes of three parts; and wrong bytes that the writer's promise refutes, each by one of its fields:
 --     exchanged                     `read`
---     other-iso                     `checked`
+--     other-iso, other-version      `checked`
 --     cleared-before, cleared-after `before-kept`, `after-kept`
 --     changed-refused               a refused call changes no byte
 --     other-file                    `Returned`

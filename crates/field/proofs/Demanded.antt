@@ -55,7 +55,9 @@ point-same part ray p h = go (eqb (part .version) 2)
     go : (b : Bool)
         → Same (demandedOf (cond b sextic quartic) ray 1024 p)
         (times (pos w)
-        (cond b (plus (pos (3 * extent ray) over (512 * radius p)) (pos 7 over 65536)) (plus (pos (extent ray) over (256 * radius p)) (pos 1 over 16384))))
+        (cond b
+        (plus (pos (3 * extent ray) over (512 * radius p)) (pos 7 over 65536))
+        (plus (pos (extent ray) over (256 * radius p)) (pos 1 over 16384))))
     go true = reduced w (extent ray) (radius p) 2 3 512 7 65536 h (omega arith) (omega arith)
     go false = rw (one-mul (extent ray)) at (reduced w (extent ray) (radius p) 4 1 256 1 16384 h (omega arith) (omega arith))
 

@@ -66,7 +66,8 @@ module _ (l : List ℤ) (i v room place : ℕ) where
   unfolding next
   from-3 e = rw (in-order, e) (go (versionKnown v) (between 1 4096 i))
     where
-      go : (s t : Bool) → next (cond s (cond t nodesVerdict (No 5)) (No 3)) lastVerdict ≡ cond s (cond t (next nodesVerdict lastVerdict) (No 5)) (No 3)
+      go : (s t : Bool) → next (cond s (cond t nodesVerdict (No 5)) (No 3)) lastVerdict
+          ≡ cond s (cond t (next nodesVerdict lastVerdict) (No 5)) (No 3)
       go false t = refl
       go true true = refl
       go true false = refl

@@ -1,5 +1,6 @@
 -- Records and trailer read back, whatever stands before them: the check accepts them, and their nodes are the given ones.
--- `part-accepted w before short : checkFile (before ++ partBytes ns i v) ≡ Accepted …`, from `w : Writable ns i v`; `part-nodes` says it of the nodes.
+-- `part-accepted w before short : checkFile (before ++ partBytes ns i v) ≡ Accepted …`, from `w : Writable ns i v`; `part-nodes` says it of
+-- the nodes.
 use Prim.Native.Nat.{ℕ, _+_, _*_, _%_, _≤_}
 use native.Mathlib.Omega.{arith}
 use mathlib.Core.Path.{_≡_, refl, ap, _∙_}

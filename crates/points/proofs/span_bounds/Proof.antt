@@ -119,4 +119,5 @@ span-bounds-spec =
     (sized (param (start (tests g) .pre .0 .ranges .weight-small) tt), q .0, q .1))
     (λ c.
     let g = c .before .before in
-    weigh-is (kernelOf (start (tests g) .args .part)) (c .weigh-sizes .ensures) (param {w = w64} (start (tests g) .pre .0 .ranges .weight-small) tt .is) (low g) (high g)))
+    weigh-is (kernelOf (start (tests g) .args .part)) (c .weigh-sizes .ensures)
+    (param {w = w64} (start (tests g) .pre .0 .ranges .weight-small) tt .is) (low g) (high g)))

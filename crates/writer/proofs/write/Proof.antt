@@ -42,7 +42,9 @@ returns : tie.Need-returns
 returns c =
     let q = c .before .before .before in
     let a = q .before .before .args in
-    let e = refused (a .numbers .now) (a .iso) (a .version) (a .buffer .now) (a .place) (sym (q .writer-questions .ensures) ∙ c .before .number .given .1) in
+    let e =
+    refused (a .numbers .now) (a .iso) (a .version) (a .buffer .now) (a .place)
+    (sym (q .writer-questions .ensures) ∙ c .before .number .given .1) in
     promised (a .numbers .now) (a .iso) (a .version) (a .buffer .now) (a .place) (sym (e .0)) (sym (e .1))
 
 put-records-requires : tie.Need-put-records-requires
