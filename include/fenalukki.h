@@ -203,11 +203,11 @@
  *   works out the bounds at the middle of each crossing tick, at most 1,024
  *   times; each is as much work as a probe and is not counted as one. On a part
  *   of 256 points, 3 sums and 252 cuts that leave every tick undecided, a column
- *   takes 91 million instructions by callgrind, which is 58 for a record and each
+ *   takes 97 million instructions by callgrind, which is 62 for a record and each
  *   of the 3,071 times that the bounds are worked out; a full or a marching cast
- *   takes 61 million. No call tried took more. With 255 sums a column takes 70
- *   million. A smaller budget makes fewer probes and so bounds a call's time; a
- *   column has no budget.
+ *   takes 65 million. No call tried took more. With 255 sums a column takes 73
+ *   million, and 78 million in a file of version 2. A smaller budget makes fewer
+ *   probes and so bounds a call's time; a column has no budget.
  *   docs/BENCHMARKS.md has the figures of other parts.
  *
  * Coming from version 4

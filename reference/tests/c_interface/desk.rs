@@ -72,7 +72,7 @@ fn files(folder: &str, end: &str) -> Vec<PathBuf> {
 fn every_part_is_read_and_written_again() {
     let desk = desk("parts");
     let parts = files("examples/parts", "part");
-    assert_eq!(parts.len(), 6);
+    assert_eq!(parts.len(), 8);
     for path in parts {
         let file = fs::read(&path).expect("a part");
         for file in [file.clone(), as_version(file, 2)] {
