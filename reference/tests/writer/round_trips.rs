@@ -44,7 +44,7 @@ fn every_part_of_the_examples() {
         }
         parts += 1;
     }
-    assert_eq!(parts, 6);
+    assert_eq!(parts, 8);
 }
 
 #[test]
