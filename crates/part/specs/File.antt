@@ -30,7 +30,7 @@ version file = u16 file (length file - 10)
 unfoldable pub distance : List ℕ → ℕ
 distance file = u32 file (length file - 8)
 
--- version 1 means degree 4, version 2 "degree 6 for all their points" (document 02, P9)
+-- is it 1, degree 4, or 2, "degree 6 for all their points"? "question 3 reads 1 or 2" (document 02, P9)
 abbrev pub versionKnown : ℕ → Bool
 versionKnown v = between 1 2 v
 
