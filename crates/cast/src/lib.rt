@@ -1,6 +1,8 @@
 // Casts of a ray through a part file's tree: full cast, first hit and column, each from a file's bytes to its answer and its bytes
 // (document 01, "Calls", questions 12 and 14; document 02, P6 and P8).
 
+#![tactic(auto)]
+
 ghost use Rattle.std.specs.Prelude.{◌≡◌, ◌++◌, ◌+◌, ◌*◌, ◌/◌, ◌^◌, ◌≤◌, ◌<◌, length, drop};
 ghost use Rattle.std.proofs.lemmas.List.Edits.{sets};
 ghost use Rattle.field.specs.Solid.{solid_of};
@@ -33,14 +35,14 @@ pub const COLUMN: usize = 128;
 const COLUMN_LEVEL: usize = 7;
 
 // What a column answers: the refusal number, or the probes.
-#[derive(Drop)]
+#[derive(Clone, Copy)]
 pub enum ColumnAnswer {
     Refused(u32),
     Complete { probes: u32 },
 }
 
 // What a cast of at most eight ticks gives: their bits, the first one's lowest, and the probes.
-#[derive(Drop)]
+#[derive(Clone, Copy)]
 struct ByteCast {
     bits: u8,
     probes: u32,

@@ -1,5 +1,7 @@
 // Small functions on plain numbers and bools that several crates call.
 
+#![tactic(auto)]
+
 ghost use Rattle.std.specs.Prelude.{◌≡◌, ◌&&◌, ◌<◌, min, max};
 ghost use Rattle.exact.specs.Range.{between, between_ℤ};
 ghost use Rattle.exact.specs.Extrema.{max_ℤ, min_ℤ};

@@ -1,6 +1,8 @@
 // The entries for hosts in C: functions on a part file's bytes, numbers and lent buffers (document 01, "Calls"; document 02, P2, P4
 // and P5). The slicing host's three come first, which are lent no totals. include/fenalukki.h is what a C program includes.
 
+#![tactic(auto)]
+
 ghost use Rattle.std.specs.Prelude.{◌≡◌, length};
 ghost use Rattle.cast.specs.Calls.{full_cast, first_hit, column_answer};
 ghost use Rattle.march.specs.Calls.{marching_cast};

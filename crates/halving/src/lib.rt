@@ -1,6 +1,8 @@
 // The halving search over the prepared numbers of a ray of two to any power ticks: the cast of the whole ray, and its first hit (document 01,
 // "Marks and probes", "Calls").
 
+#![tactic(auto)]
+
 ghost use Rattle.std.specs.Prelude.{◌≡◌, ◌++◌, ◌+◌, ◌-◌, ◌≤◌, length, take, drop, replicate};
 ghost use Rattle.std.proofs.lemmas.List.Edits.{sets};
 ghost use Rattle.field.specs.Bounds.{not_looked_at};
@@ -13,7 +15,7 @@ use field::{CROSSING, EMPTY, NOT_LOOKED_AT, Span};
 use part::Summary;
 
 // What a full cast answers: the refusal number; the probes; or the tick reached and the probes.
-#[derive(Drop)]
+#[derive(Clone, Copy)]
 pub enum CastAnswer {
     Refused(u32),
     Complete { probes: u32 },
@@ -22,7 +24,7 @@ pub enum CastAnswer {
 
 // What a first hit answers: the refusal number; the first tick that is not empty, its mark and the probes; the probes, if all are
 // empty; or the tick reached and the probes.
-#[derive(Drop)]
+#[derive(Clone, Copy)]
 pub enum HitAnswer {
     Refused(u32),
     Hit { tick: usize, mark: u8, probes: u32 },
@@ -31,7 +33,7 @@ pub enum HitAnswer {
 }
 
 // What stays the same through a search: what does through the call, the number of ticks of the ray and the budget.
-#[derive(Drop)]
+#[derive(Clone, Copy)]
 pub struct Search {
     pub part: Summary,
     pub ticks: usize,

@@ -1,5 +1,7 @@
 // What the programs share: where the part file starts in their input, and numbers as they print them, to standard output.
 
+#![tactic(auto)]
+
 ghost use Rattle.std.specs.Prelude.{◌≡◌, min};
 
 use io::{print_decimal, write_all};

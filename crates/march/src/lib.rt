@@ -1,5 +1,7 @@
 // The marching full cast (document 02, P5): candidates from tick 0 on, the first of 64 ticks, each decided, halved or one tick long.
 
+#![tactic(auto)]
+
 ghost use Rattle.std.specs.Prelude.{◌≡◌, ◌++◌, ◌≤◌, length, drop};
 ghost use Rattle.std.proofs.lemmas.List.Edits.{sets};
 ghost use Rattle.field.specs.Solid.{solid_of};
@@ -22,7 +24,7 @@ use part::Checked;
 pub const FIRST: usize = 64;
 
 // The first tick of a candidate, and its length before it is cut to what is left of the ray.
-#[derive(Drop)]
+#[derive(Clone, Copy)]
 pub struct Candidate {
     pub first: usize,
     pub length: usize,

@@ -1,5 +1,7 @@
 // The nodes of an accepted part file, handed over as numbers in a lent array.
 
+#![tactic(auto)]
+
 ghost use Rattle.std.specs.Prelude.{◌≡◌, ◌+◌, ◌*◌, ◌≤◌, ◌∷◌, [], length};
 ghost use Rattle.std.proofs.lemmas.List.Edits.{sets};
 ghost use Rattle.part.specs.File.{nodes_from, check_file, Says};

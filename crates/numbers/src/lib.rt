@@ -1,6 +1,8 @@
 // A host's numbers: the place or ray that it hands over, what it gets for each case of an answer, and the running totals that it
 // lends (document 01, "Calls"; document 02, P2 and P4).
 
+#![tactic(auto)]
+
 ghost use Rattle.std.specs.Prelude.{◌≡◌, ◌^◌, ◌<◌};
 ghost use Rattle.halving.specs.Numbers.{cast_number, hit_number};
 ghost use Rattle.cast.specs.Column.{column_number};

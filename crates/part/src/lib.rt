@@ -1,5 +1,7 @@
 // The part file: its trailer, its records, and its check (document 01, "The part file"; questions 1 to 11; document 02, P9).
 
+#![tactic(auto)]
+
 ghost use Rattle.std.specs.Prelude.{◌≡◌, ◌+◌, ◌*◌, ◌≤◌, length};
 ghost use Rattle.record.specs.Questions.{first_no};
 ghost use Rattle.part.specs.File.{iso, version, version_known, distance, marked, trailer_questions, count, start, records_from, records_questions};
@@ -10,7 +12,7 @@ use exact::{both, is_between};
 use record::{Verdict, ask, held_after, node_at, record_questions_at, u16_at, u32_at};
 
 // What stays the same of an accepted file through a call: its node count, its iso-value and its version, which is 1 or 2.
-#[derive(Drop)]
+#[derive(Clone, Copy)]
 pub struct Summary {
     pub nodes: usize,
     pub iso: usize,
@@ -18,7 +20,7 @@ pub struct Summary {
 }
 
 // The check of a file: the refusal number, or the node count, the iso-value and the version.
-#[derive(Drop)]
+#[derive(Clone, Copy)]
 pub enum Checked {
     Refused(u32),
     Accepted(Summary),

@@ -1,6 +1,8 @@
 // The part lister: reads a part file from standard input and prints what its check answers: "refused" and the number, or the
 // node count, the iso-value, the version and each node's six numbers (kind, r, x, y, z, w) in file order.
 
+#![tactic(auto)]
+
 ghost use Rattle.std.specs.Prelude.{◌+◌, ◌≤◌};
 ghost use Rattle.nodes.specs.Numbers.{numbers_room};
 

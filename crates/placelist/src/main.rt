@@ -2,6 +2,8 @@
 // the high, or "refused" and the number. The place is x, y and z as signed 16-bit numbers, little-endian, before the file's bytes;
 // with fewer than 6 bytes the file counts as empty.
 
+#![tactic(auto)]
+
 use bounds::{BoundsAnswer, place_bounds};
 use field::Position;
 use io::read_full;

@@ -1,6 +1,8 @@
 // A point of a part on a ray: whether a span of the ray comes within its radius, and its bounds over the span (document 01, "Bounds"; document 02,
 // P3 and P9).
 
+#![tactic(auto)]
+
 ghost use Rattle.std.specs.Prelude.{◌≡◌, cond, ◌||◌, ◌^◌, ◌≤◌, ◌<◌, ltb, pos, nat_abs, ◌≤ℤ◌};
 ghost use Rattle.exact.specs.Range.{Small};
 ghost use Rattle.field.specs.Solid.{kernel_of};
@@ -14,7 +16,7 @@ use field::{Bounds, Prepared, Span};
 use part::Summary;
 
 // A point that a ray reaches, and 65536 u, rounded up, at the place of the ray that is nearest the centre: 0 where that is not strictly inside.
-#[derive(Drop)]
+#[derive(Clone, Copy)]
 pub struct Reached {
     pub point: Prepared,
     pub peak: i64,

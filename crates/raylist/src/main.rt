@@ -3,6 +3,8 @@
 // number. The ray is A and B as six signed 16-bit numbers and the budget an unsigned one, little-endian, before the file's bytes;
 // with fewer than 14 bytes the file counts as empty.
 
+#![tactic(auto)]
+
 ghost use Rattle.std.specs.Prelude.{◌≡◌, ◌+◌, ◌≤◌, ◌<◌, length};
 ghost use Rattle.raylist.specs.Input.{position_at};
 ghost use Rattle.raylist.specs.Runs.{Run};

@@ -1,6 +1,8 @@
 // A record of the part file: the numbers in its bytes, its node, and the questions about it (document 01, "The part file", questions 6 to 10;
 // document 02, P1).
 
+#![tactic(auto)]
+
 ghost use Rattle.std.specs.Prelude.{◌≡◌, ◌+◌, ◌≤◌, ◌<◌, cond, length};
 ghost use Rattle.record.specs.Bytes.{u16, u32, i16, zeros};
 ghost use Rattle.record.specs.Questions.{first_no};
@@ -11,14 +13,14 @@ ghost use Rattle.record.specs.Ranges.{Ready};
 use exact::{both, is_between_signed, wide};
 
 // What a list of questions is answered: yes to all, or the number of the first no.
-#[derive(Drop)]
+#[derive(Clone, Copy)]
 pub enum Verdict {
     Yes,
     No(u32),
 }
 
 // A node of the tree: the six numbers of a record.
-#[derive(Drop)]
+#[derive(Clone, Copy)]
 pub struct Node {
     pub kind: i32,
     pub radius: i32,
@@ -29,7 +31,7 @@ pub struct Node {
 }
 
 // A record of the file, or what is to be one: its node, and whether its zero bytes are zero.
-#[derive(Drop)]
+#[derive(Clone, Copy)]
 pub struct Record {
     pub node: Node,
     pub zeroed: bool,

@@ -1,6 +1,8 @@
 // The running totals by value: what each answer adds to them, the totals after it, and the reading of a saved record (document 01,
 // "Calls"; document 02, P4).
 
+#![tactic(auto)]
+
 ghost use Rattle.std.specs.Prelude.{◌≡◌, ◌+◌, length};
 ghost use Rattle.tally.specs.Counts.{capped, after_tally, cast_tally, hit_tally, column_tally, view_tally};
 ghost use Rattle.tally.specs.Saved.{saved_totals, read_saved, SavedSays, after_saved};
@@ -14,7 +16,7 @@ use view::ViewAnswer;
 pub const CEILING: u64 = 18446744073709551615;
 
 // The running totals.
-#[derive(Drop)]
+#[derive(Clone, Copy)]
 pub struct Totals {
     pub casts: u64,
     pub probes: u64,
@@ -22,14 +24,14 @@ pub struct Totals {
 }
 
 // What a call adds to them: a cast with its probes, or a refusal.
-#[derive(Drop)]
+#[derive(Clone, Copy)]
 pub enum Tally {
     Cast(u32),
     Refused,
 }
 
 // What a saved record is answered: the refusal number, or its totals.
-#[derive(Drop)]
+#[derive(Clone, Copy)]
 pub enum Saved {
     Refused(u32),
     Read(Totals),

@@ -1,6 +1,8 @@
 // Entries for tests alone, of what no host in C needs: the calls that are handed the running totals as a record, the reading of a saved
 // record into it, and the viewer's answer with its place as a float. Hosts link `fenalukki`, which has none of these.
 
+#![tactic(auto)]
+
 ghost use Rattle.std.specs.Prelude.{◌≡◌, [], ◌∷◌, length};
 ghost use Rattle.view.specs.Call.{viewer_first_hit};
 ghost use Rattle.view.specs.Numbers.{view_number, view_place};

@@ -1,6 +1,8 @@
 // The casting calls: lent no totals, handed them by value, and, in two thin functions, lent them (document 01, "Calls"; document 02,
 // P5); and the reading of a saved record into the totals, by value and lent (document 02, P4).
 
+#![tactic(auto)]
+
 ghost use Rattle.std.specs.Prelude.{◌≡◌, length};
 ghost use Rattle.tally.specs.Counts.{after_tally, view_tally};
 ghost use Rattle.totals.specs.Calls.{tally_of, Performed, totals_after, Viewed, totals_after_view, Answered, totals_restored};
@@ -16,7 +18,7 @@ use tally::{
 use view::{ViewAnswer, ViewRay, viewer_first_hit};
 
 // A call on a ray in whole steps.
-#[derive(Drop)]
+#[derive(Clone, Copy)]
 pub enum Call {
     FullCast { ray: Ray, budget: u32 },
     FirstHit { ray: Ray, budget: u32 },
@@ -25,7 +27,7 @@ pub enum Call {
 }
 
 // Its answer.
-#[derive(Drop)]
+#[derive(Clone, Copy)]
 pub enum Answer {
     FullCast(CastAnswer),
     FirstHit(HitAnswer),
@@ -34,27 +36,27 @@ pub enum Answer {
 }
 
 // A call of the viewer's first hit.
-#[derive(Drop)]
+#[derive(Clone, Copy)]
 pub struct ViewCall {
     pub ray: ViewRay,
     pub budget: u32,
 }
 
 // An answer, and the totals after its call.
-#[derive(Drop)]
+#[derive(Clone, Copy)]
 pub struct CountedAnswer {
     pub answer: Answer,
     pub totals: Totals,
 }
 
-#[derive(Drop)]
+#[derive(Clone, Copy)]
 pub struct CountedViewAnswer {
     pub answer: ViewAnswer,
     pub totals: Totals,
 }
 
 // What a saved record is answered, and the totals after it.
-#[derive(Drop)]
+#[derive(Clone, Copy)]
 pub struct Restored {
     pub answer: Saved,
     pub totals: Totals,

@@ -1,6 +1,8 @@
 // The viewer's first hit: a ray of six floats in millimetres taken to whole steps, and a first hit's ticks given back as floats
 // (document 01, "Calls", question 15).
 
+#![tactic(auto)]
+
 ghost use Rattle.std.specs.Prelude.{◌≡◌, ◌^◌, ◌<◌, ◌≤◌};
 ghost use Rattle.halving.specs.FirstHit.{hit_looked_at};
 ghost use Rattle.cast.specs.Ticks.{exponent};
@@ -16,7 +18,7 @@ use halving::HitAnswer;
 use part::{Checked, check};
 
 // An end of the viewer's ray, in millimetres.
-#[derive(Drop)]
+#[derive(Clone, Copy)]
 pub struct ViewEnd {
     pub x: f32,
     pub y: f32,
@@ -24,28 +26,28 @@ pub struct ViewEnd {
 }
 
 // The viewer's ray from end A to end B.
-#[derive(Drop)]
+#[derive(Clone, Copy)]
 pub struct ViewRay {
     pub start: ViewEnd,
     pub end: ViewEnd,
 }
 
 // A coordinate in whole steps.
-#[derive(Drop)]
+#[derive(Clone, Copy)]
 pub enum Steps {
     Refused,
     Whole(i32),
 }
 
 // An end in whole steps.
-#[derive(Drop)]
+#[derive(Clone, Copy)]
 pub enum EndSteps {
     Refused,
     At(Position),
 }
 
 // A ray in whole steps.
-#[derive(Drop)]
+#[derive(Clone, Copy)]
 pub enum RaySteps {
     Refused,
     Along(Ray),
@@ -53,7 +55,7 @@ pub enum RaySteps {
 
 // What the viewer's first hit answers: the refusal number; where the first tick that is not empty starts, its mark and the probes;
 // the probes, if all are empty; or where the tick reached starts and the probes. Places are parts of the ray, from 0 to 1.
-#[derive(Drop)]
+#[derive(Clone, Copy)]
 pub enum ViewAnswer {
     Refused(u32),
     Hit { entry: f32, mark: u8, probes: u32 },

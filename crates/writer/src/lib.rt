@@ -1,5 +1,7 @@
 // The part file written: records and trailer from six numbers a node, an iso-value and a version (document 02, P2 and P9).
 
+#![tactic(auto)]
+
 ghost use Rattle.std.specs.Prelude.{◌≡◌, ◌+◌, ◌*◌, ◌≤◌, cond, ◌++◌, map, length};
 ghost use Rattle.std.proofs.lemmas.List.Edits.{sets};
 ghost use Rattle.exact.specs.Range.{Small};
@@ -15,7 +17,7 @@ use part::is_known_version;
 use record::{Node, Record, Verdict, ask, held_after, is_point, record_questions};
 
 // The place just after the trailer, or the refusal number.
-#[derive(Drop)]
+#[derive(Clone, Copy)]
 pub enum Written {
     Refused(u32),
     End(usize),
