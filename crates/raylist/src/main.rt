@@ -12,9 +12,9 @@ ghost use Rattle.raylist.specs.Runs.{Run};
 use cast::full_cast;
 use field::{CROSSING, EMPTY, INSIDE, Position, Ray};
 use halving::CastAnswer;
-use io::{read_full, write_all};
-use listing::{file_start, print_number};
+use listing::{file_start, print_number, read_full};
 use record::{i16_at, u16_at};
+use std::io;
 
 // The place whose three numbers stand from a byte on.
 fn position_at(input: &[u8], at: usize) -> Position
@@ -41,46 +41,47 @@ fn run_end(marks: &[u8], first: usize) -> usize
 }
 
 // The line of a run; ticks not looked at make none.
-fn print_run(mark: u8, first: usize, after: usize) {
+fn print_run(rt: &impl Print, mark: u8, first: usize, after: usize) -> io::Result<()> {
     match mark {
-        EMPTY => print_number(b"empty ", first as u64, b' '),
-        CROSSING => print_number(b"crossing ", first as u64, b' '),
-        INSIDE => print_number(b"inside ", first as u64, b' '),
-        _ => return,
+        EMPTY => print_number(rt, b"empty ", first as u64, b' ')?,
+        CROSSING => print_number(rt, b"crossing ", first as u64, b' ')?,
+        INSIDE => print_number(rt, b"inside ", first as u64, b' ')?,
+        _ => return Ok(()),
     }
-    print_number(b"", after as u64, b'\n');
+    print_number(rt, b"", after as u64, b'\n')
 }
 
 // A line for each run.
-fn print_runs(marks: &[u8]) {
+fn print_runs(rt: &impl Print, marks: &[u8]) -> io::Result<()> {
     let mut first = 0;
     while first < marks.len() {
         let after = run_end(marks, first);
-        print_run(marks[first], first, after);
+        print_run(rt, marks[first], first, after)?;
         first = after;
     }
+    Ok(())
 }
 
 // The last line.
-fn print_answer(answer: CastAnswer) {
+fn print_answer(rt: &impl Print, answer: CastAnswer) -> io::Result<()> {
     match answer {
-        CastAnswer::Refused(number) => print_number(b"refused ", number as u64, b'\n'),
+        CastAnswer::Refused(number) => print_number(rt, b"refused ", number as u64, b'\n'),
         CastAnswer::Complete { probes } => {
-            print_number(b"probes ", probes as u64, b' ');
-            write_all(1, b"complete\n");
+            print_number(rt, b"probes ", probes as u64, b' ')?;
+            rt.write_all(b"complete\n")
         }
         CastAnswer::Spent { tick, probes } => {
-            print_number(b"probes ", probes as u64, b' ');
-            print_number(b"spent ", tick as u64, b'\n');
+            print_number(rt, b"probes ", probes as u64, b' ')?;
+            print_number(rt, b"spent ", tick as u64, b'\n')
         }
     }
 }
 
 // A refused cast leaves every mark at 3, so it has no run lines.
-fn main() {
+fn main(rt: HostRuntime) -> io::Result<()> {
     // a ray, a budget and one byte more than the longest file
     let mut input = [0u8; 65551];
-    let n = read_full(0, &mut input[..]);
+    let n = read_full(&rt, &mut input[..])?;
     let ray = Ray {
         start: position_at(&input[..], 0),
         end: position_at(&input[..], 6),
@@ -88,6 +89,6 @@ fn main() {
     let budget = u16_at(&input[..], 12) as u32;
     let mut marks = [3; 1024];
     let answer = full_cast(&input[file_start(n, 14)..n], ray, budget, &mut marks[..]);
-    print_runs(&marks[..]);
-    print_answer(answer);
+    print_runs(&rt, &marks[..])?;
+    print_answer(&rt, answer)
 }
