@@ -103,6 +103,7 @@ module _ (file : List ℕ) (ray : ViewRay) where
     counted : (a : HitAnswer) → Found (ray_state (solid_of file) steps (2 ^ k)) budget k 0 0 a → CountedHit (solid_of file) steps k budget a
         → CountedView file ray k budget (view_of (2 ^ k) a)
     unfolding CountedView CountedHit in_ticks view_of
+    counted (found.Refused _) h c = elim h [ ]
     counted (found.Hit t s p) h c = c
     counted (found.Clear p) h c = c
     counted (found.Spent t p) h c = c
