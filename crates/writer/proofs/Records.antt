@@ -2,7 +2,7 @@
 -- the questions accept the nodes: whatever follows them.
 use Prim.Native.Nat.{ℕ, ◌+◌, ◌-◌, ◌*◌, ◌/◌, ◌%◌, ◌≤◌, ◌<◌}
 use native.Mathlib.Omega.{arith}
-use mathlib.Core.Path.{◌≡◌, refl, sym, ap, ap₂, ◌∙◌}
+use mathlib.Core.Path.{◌≡◌, refl, sym, ap, ap₂, ◌∙◌, subst}
 use mathlib.Core.List.{List, [], ◌∷◌, ◌++◌, map, append_assoc}
 use mathlib.Core.Bool.{Bool, true, false, cond, ◌&&◌}
 use lib.ListN.{length, length-append}
@@ -180,7 +180,8 @@ records_back [] held rest ok = refl
 records_back (n ∷ later) held rest ok =
     let q = yes_append (record_questions (record_of n) held) (records_questions (map record_of later) (held_after (record_of n).node held)) ok in
     let f = node_facts n held q.0 in
-    rw append_assoc
+    subst (λ (file : List ℕ). records_from file (length (n ∷ later)) 0 ≡ map record_of (n ∷ later))
+    (sym (append_assoc (record_bytes n) (records_bytes later) rest))
     (ap₂ ◌∷◌ (record_back n (records_bytes later ++ rest) f.0 f.1)
     (ap (λ (k : ℕ). records_from (record_bytes n ++ (records_bytes later ++ rest)) (length later) k) (sym (ap (λ (k : ℕ). k + 0) (length_record n)))
     ∙ records_moved (record_bytes n) (records_bytes later ++ rest) (length later) 0
