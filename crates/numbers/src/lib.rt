@@ -60,6 +60,7 @@ pub fn view_ray_of(ax: f32, ay: f32, az: f32, bx: f32, by: f32, bz: f32) -> View
 
 // ---- given back
 
+#[tactic(auto, unfolding(halving::specs::Numbers::cast_number))]
 pub fn cast_number(answer: CastAnswer) -> u32
     requires { cast_number answer < 2 ^ 32 }
     ensures { result ≡ cast_number answer }
@@ -71,6 +72,7 @@ pub fn cast_number(answer: CastAnswer) -> u32
     }
 }
 
+#[tactic(auto, unfolding(halving::specs::Numbers::hit_number))]
 pub fn hit_number(answer: HitAnswer) -> u64
     requires { hit_number answer < 2 ^ 64 }
     ensures { result ≡ hit_number answer }
@@ -85,6 +87,7 @@ pub fn hit_number(answer: HitAnswer) -> u64
     }
 }
 
+#[tactic(auto, unfolding(cast::specs::Column::column_number))]
 pub fn column_number(answer: ColumnAnswer) -> u32
     requires { column_number answer < 2 ^ 32 }
     ensures { result ≡ column_number answer }
@@ -95,6 +98,7 @@ pub fn column_number(answer: ColumnAnswer) -> u32
     }
 }
 
+#[tactic(auto, unfolding(crate::specs::Numbers::check_number))]
 pub fn check_number(answer: Checked) -> u64
     requires { check_number answer < 2 ^ 64 }
     ensures { result ≡ check_number answer }
@@ -108,6 +112,7 @@ pub fn check_number(answer: Checked) -> u64
 }
 
 // The number of the bounds at a place; they go into the lent pair.
+#[tactic(auto, unfolding(crate::specs::Numbers::bounds_number, crate::specs::Numbers::bounds_left))]
 pub fn bounds_number(answer: BoundsAnswer, lent: &mut [i64; 2]) -> u32
     ensures number { result ≡ bounds_number answer }
     ensures pair { lent.new ≡ bounds_left answer lent.old }
@@ -121,6 +126,7 @@ pub fn bounds_number(answer: BoundsAnswer, lent: &mut [i64; 2]) -> u32
     }
 }
 
+#[tactic(auto, unfolding(crate::specs::Numbers::write_number))]
 pub fn write_number(answer: Written) -> u32
     requires { write_number answer < 2 ^ 32 }
     ensures { result ≡ write_number answer }
@@ -131,6 +137,7 @@ pub fn write_number(answer: Written) -> u32
     }
 }
 
+#[tactic(auto, unfolding(crate::specs::Numbers::saved_number))]
 pub fn saved_number(answer: Saved) -> u32
     ensures { result ≡ saved_number answer }
 {
@@ -142,6 +149,7 @@ pub fn saved_number(answer: Saved) -> u32
 
 // ---- the running totals, lent as three numbers
 
+#[tactic(auto, unfolding(crate::specs::Numbers::totals_in))]
 pub fn totals_in(lent: &[u64; 3]) -> Totals
     ensures { result ≡ totals_in lent.now }
 {
@@ -159,6 +167,7 @@ pub fn put_totals(totals: Totals, lent: &mut [u64; 3])
 }
 
 // Counts a call.
+#[tactic(auto, unfolding(crate::specs::Numbers::lent_after))]
 pub fn count_lent(tally: Tally, lent: &mut [u64; 3])
     ensures { lent.new ≡ lent_after tally lent.old }
 {
@@ -166,6 +175,7 @@ pub fn count_lent(tally: Tally, lent: &mut [u64; 3])
 }
 
 // The totals of a saved record that is read take their place.
+#[tactic(auto, unfolding(crate::specs::Numbers::saved_left))]
 pub fn put_saved(answer: Saved, lent: &mut [u64; 3])
     ensures { lent.new ≡ saved_left answer lent.old }
 {

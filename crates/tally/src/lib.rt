@@ -38,6 +38,7 @@ pub enum Saved {
 }
 
 // A sum that stays at the ceiling.
+#[tactic(auto, unfolding(crate::specs::Counts::capped))]
 fn capped_sum(total: u64, more: u64) -> u64
     ensures { result ≡ capped (total + more) }
 {
@@ -49,6 +50,7 @@ fn capped_sum(total: u64, more: u64) -> u64
 }
 
 // The totals after a call.
+#[tactic(auto, unfolding(crate::specs::Counts::after_tally))]
 pub fn count(totals: Totals, tally: Tally) -> Totals
     ensures { result ≡ after_tally totals tally }
 {
@@ -67,6 +69,7 @@ pub fn count(totals: Totals, tally: Tally) -> Totals
 }
 
 // What an answer adds.
+#[tactic(auto, unfolding(crate::specs::Counts::cast_tally))]
 pub fn cast_tally(answer: CastAnswer) -> Tally
     ensures { result ≡ cast_tally answer }
 {
@@ -77,6 +80,7 @@ pub fn cast_tally(answer: CastAnswer) -> Tally
     }
 }
 
+#[tactic(auto, unfolding(crate::specs::Counts::hit_tally))]
 pub fn hit_tally(answer: HitAnswer) -> Tally
     ensures { result ≡ hit_tally answer }
 {
@@ -92,6 +96,7 @@ pub fn hit_tally(answer: HitAnswer) -> Tally
     }
 }
 
+#[tactic(auto, unfolding(crate::specs::Counts::column_tally))]
 pub fn column_tally(answer: ColumnAnswer) -> Tally
     ensures { result ≡ column_tally answer }
 {
@@ -101,6 +106,7 @@ pub fn column_tally(answer: ColumnAnswer) -> Tally
     }
 }
 
+#[tactic(auto, unfolding(crate::specs::Counts::view_tally))]
 pub fn view_tally(answer: ViewAnswer) -> Tally
     ensures { result ≡ view_tally answer }
 {
@@ -119,6 +125,7 @@ pub fn view_tally(answer: ViewAnswer) -> Tally
 // ---- a saved record
 
 // The three numbers in its bytes.
+#[tactic(auto, unfolding(crate::specs::Saved::saved_totals))]
 fn saved_totals(saved: &[u8]) -> Totals
     requires { length saved.now ≡ 12 }
     ensures { result ≡ saved_totals saved.now }
@@ -142,6 +149,7 @@ pub fn read_saved(saved: &[u8]) -> Saved
 }
 
 // The record in use after a saved one: the saved totals, or, where it is refused, what it was.
+#[tactic(auto, unfolding(crate::specs::Saved::after_saved))]
 pub fn restored(totals: Totals, saved: Saved) -> Totals
     ensures { result ≡ after_saved totals saved }
 {

@@ -9,8 +9,8 @@ use mathlib.Core.Path.{◌≡◌, refl}
 use Prim.Native.Nat.{ℕ, zero, suc}
 use mathlib.Core.List.{List, [], ◌∷◌}
 use seplogic.Ra.Ura.{Ura}
-use seplogic.Ra.TreeShare.{full_share}
-use mir.Syntax.{Name, Lifetime, Ty, Body as Code, place, deref, copy, rv_opd, assign, call, seq}
+use base.Fraction.{full_share}
+use mir.Syntax.{Callee, Lifetime, Ty, Body as Code, place, deref, copy, rv_opd, assign, call, seq}
 use mir.Val.{Val, vptr}
 use base.Logic.{SProp, ent, emp, sep, assoc∗, id⊢}
 use base.Fml.{GName, Lft, Share, ftrue, fsep, flft, flent, fres, fobs, fauth, fbor, fobor, fat, froom, fdies}
@@ -146,7 +146,7 @@ module _ {M : Type 1} (𝓤 : Ura M) (H : Heap 𝓤) (E : Env 𝓤 H) (i : ℕ) 
   cell v = ‵ (fat full_share (spot_of 𝓤 H E i).0 (spot_of 𝓤 H E i).1 (spot_of 𝓤 H E i).2 v)
 
 module _ {M : Type 1} {𝓤 : Ura M} {𝓛 : Logic 𝓤} {Γ : List (Item 𝓤)}
-    {C : Calls 𝓤 𝓛.H} {Λ : Loops 𝓤 𝓛.H} {E : Env 𝓤 𝓛.H} {P : Post 𝓤 𝓛.H} {f : Name} {i j k l : ℕ} {rest : Code} where
+    {C : Calls 𝓤 𝓛.H} {Λ : Loops 𝓤 𝓛.H} {E : Env 𝓤 𝓛.H} {P : Post 𝓤 𝓛.H} {f : Callee} {i j k l : ℕ} {rest : Code} where
   -- _i is the totals, _j the answer, _k the new totals and _l the totals read
   open 𝓛 use {H}
 

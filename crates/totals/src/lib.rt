@@ -65,6 +65,7 @@ pub struct Restored {
 // ---- the totals after an answer
 
 // What an answer adds.
+#[tactic(auto, unfolding(crate::specs::Calls::tally_of))]
 fn tally_of(answer: Answer) -> Tally
     ensures { result ≡ tally_of answer }
 {

@@ -15,7 +15,7 @@ use Rattle.record.specs.Questions.{first_no, next}
 use Rattle.record.specs.declared.Node.{Node}
 use Rattle.record.specs.declared.Verdict.{Verdict}
 use Rattle.record.specs.declared.Verdict.TheVariants.{Yes, No}
-use Rattle.part.specs.File.{iso, distance, start, nodes, check_file, file_questions}
+use Rattle.part.specs.File.{distance, start, nodes, check_file, file_questions}
 use Rattle.part.specs.Accepted.{Trailer}
 use Rattle.part.specs.declared.Checked.TheVariants.{Accepted}
 use Rattle.part.proofs.File.{accepted}
