@@ -1,4 +1,3 @@
-use Rattle.std.proofs.Common.{arith}
 use lib.Signed.{lt_z}
 use mir.Facts.{to_z-of_z}
 use Rattle.exact.specs.Extrema.{max_ℤ}
