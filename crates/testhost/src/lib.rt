@@ -20,6 +20,7 @@ use numbers::{
 use totals::{Answer, Call, ViewCall, perform_by_value, restore_by_value, view_by_value};
 use view::ViewAnswer;
 
+#[tactic(auto, unfolding(view::specs::Numbers::view_number))]
 fn view_number(answer: ViewAnswer) -> u64
     ensures { result ≡ view_number answer }
 {
@@ -35,6 +36,7 @@ fn view_number(answer: ViewAnswer) -> u64
     }
 }
 
+#[tactic(auto, unfolding(view::specs::Numbers::view_place))]
 fn place_in(answer: ViewAnswer) -> f32
     ensures { result ≡ view_place answer }
 {
@@ -50,6 +52,7 @@ fn place_in(answer: ViewAnswer) -> f32
     }
 }
 
+#[tactic(auto, unfolding(totals::specs::Numbers::number_of, totals::specs::Numbers::NumberFits))]
 fn number_of(answer: Answer) -> u64
     requires { NumberFits answer }
     ensures { result ≡ number_of answer }
@@ -62,6 +65,7 @@ fn number_of(answer: Answer) -> u64
     }
 }
 
+#[tactic(auto, unfolding(crate::specs::Entries::call_of))]
 fn call_of(which: u32, ray: Ray, budget: u32) -> Call
     ensures { result ≡ call_of which ray budget }
 {
