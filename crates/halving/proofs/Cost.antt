@@ -56,11 +56,13 @@ module _ (state : ℕ → ℕ → ℕ) (b : ℕ) where
   -- a left half, and what follows it if it is clear
   left_then : (k i m : ℕ) (f : HitAnswer) (next : ℕ → HitAnswer) → Cost k i (m + 1) f → ((n : ℕ) → Cost k (i + 2 ^ k) n (next n))
       → Cost (suc k) i m (or_else f next)
+  left_then k i m (Refused _) next few right = elim few [ ]
   left_then k i m (Hit t s p) next (h, at, l, few) right = (h, at, omega (arith, pow_step 2 k), omega (arith, ones_left k h l))
   left_then k i m (Spent t p) next (from, few) right = (from, omega arith)
   left_then k i m (Clear p) next few right = then (next p) (right p)
     where
       then : (f : HitAnswer) → Cost k (i + 2 ^ k) p f → Cost (suc k) i m f
+      then (Refused _) more = elim more [ ]
       then (Hit t s q) (h, at, l, more) =
           (2 ^ k + h, omega arith, omega (arith, pow_step 2 k), omega (arith, pow_step 2 k, ones_right k h))
       then (Clear q) more = omega (arith, pow_step 2 k, pow_step 2 (suc k))

@@ -66,12 +66,14 @@ module _ (state : ℕ → ℕ → ℕ) (b : ℕ) where
   left_then : (k i m : ℕ) (f : HitAnswer) (next : ℕ → HitAnswer)
       → probe_count state (suc k) i ≡ suc (probe_count state k i + probe_count state k (i + 2 ^ k))
       → Found k i (m + 1) f → ((n : ℕ) → n ≤ b → Found k (i + 2 ^ k) n (next n)) → Found (suc k) i m (or_else f next)
+  left_then k i m (Refused _) next c x4 right = elim x4 [ ]
   left_then k i m (Hit t s p) next c (from, before, is, some, empty, few, in-budget) right =
       (from, omega (arith, pow_step 2 k), is, some, empty, omega arith, in-budget)
   left_then k i m (Spent t p) next c (from, before, empty, all, more) right = (from, omega (arith, pow_step 2 k), empty, all, omega arith)
   left_then k i m (Clear p) next c (empty, is, in-budget) right = then (next p) (right p in-budget)
     where
       then : (f : HitAnswer) → Found k (i + 2 ^ k) p f → Found (suc k) i m f
+      then (Refused _) x7 = elim x7 [ ]
       then (Hit t s q) (from, before, at, some, more, few, below) =
           (omega arith, omega (arith, pow_step 2 k), at, some, empties i (i + 2 ^ k) t empty more, omega arith, below)
       then (Clear q) (more, q_is, below) =

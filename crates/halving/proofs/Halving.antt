@@ -99,9 +99,11 @@ module _ (state : ℕ → ℕ → ℕ) where
     left_then : (k i m : ℕ) (w : CastAnswer) (next : ℕ → CastAnswer)
         → probe_count state (suc k) i ≡ suc (probe_count state k i + probe_count state k (i + 2 ^ k))
         → Walked k i (m + 1) w → ((n : ℕ) → n ≤ b → Walked k (i + 2 ^ k) n (next n)) → Walked (suc k) i m (and_then w next)
+    left_then k i m (Refused _) next c x4 right = elim x4 [ ]
     left_then k i m (Complete p) next c (is, in-budget) right = then (next p) (right p in-budget)
       where
         then : (w : CastAnswer) → Walked k (i + 2 ^ k) p w → Walked (suc k) i m w
+        then (Refused _) x7 = elim x7 [ ]
         then (Complete q) (q_is, below) = (omega arith, below)
         then (Spent t q) (q_is, more, from, before) = (q_is, omega arith, omega arith, omega (arith, pow_step 2 k))
     left_then k i m (Spent t p) next c (is, more, from, before) right = (is, omega arith, from, omega (arith, pow_step 2 k))
@@ -128,6 +130,7 @@ module _ (state : ℕ → ℕ → ℕ) where
     -- the ticks looked at are those of the span, from its first on
     pub looked_within : (k i m : ℕ) (w : CastAnswer) → Walked k i m w → (i ≤ cast_looked_at (i + 2 ^ k) w) × (cast_looked_at (i + 2 ^ k) w ≤ i + 2 ^ k)
     unfolding cast_looked_at
+    looked_within k i m (Refused _) h = elim h [ ]
     looked_within k i m (Complete p) h = (omega arith, omega arith)
     looked_within k i m (Spent t p) (is, more, from, before) = (from, omega arith)
 
@@ -136,6 +139,7 @@ module _ (state : ℕ → ℕ → ℕ) where
     enough k i m h = complete (walk state b k i m) (walked k i m (omega arith))
       where
         complete : (w : CastAnswer) → Walked k i m w → w ≡ Complete (m + probe_count state k i)
+        complete (Refused _) x'' = elim x'' [ ]
         complete (Complete p) (is, in-budget) = ap Complete is
         complete (Spent t p) (is, more, from, before) = absurd (omega arith)
 

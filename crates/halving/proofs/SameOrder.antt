@@ -54,6 +54,7 @@ module _ (state : ℕ → ℕ → ℕ) where
     left_then : (h n : ℕ) (f : HitAnswer) (w : CastAnswer) (then : ℕ → HitAnswer) (next : ℕ → CastAnswer) → Alike h f w
         → ((p : ℕ) → Alike n (then p) (next p)) → ((p : ℕ) → h ≤ cast_looked_at n (next p)) → Alike n (or_else f then) (and_then w next)
     unfolding cast_looked_at
+    left_then h n (first.Refused _) w then next left right from = elim left [ ]
     left_then h n (first.Hit t s p) (cast.Refused x) then next left right from = left
     left_then h n (first.Hit t s p) (cast.Complete q) then next left right from = omega (arith, from q)
     left_then h n (first.Hit t s p) (cast.Spent u q) then next left right from = left
@@ -132,11 +133,13 @@ module _ (state : ℕ → ℕ → ℕ) where
 
       told_halves : (half n : ℕ) (f : HitAnswer) (then : ℕ → HitAnswer) → Told c i half (m + 1) f g → ((p : ℕ) → Told c half n p (then p) (next p))
           → Told c i n m (or_else f then) g'
+      told_halves half n (first.Refused _) then left right = elim left [ ]
       told_halves half n (first.Hit t s p) then left right = from_left (t + 1) p (first.Hit t s p) refl left
       told_halves half n (first.Spent t p) then left right = tt
       told_halves half n (first.Clear p) then left right = by_right (then p) (right p)
         where
           by_right : (f : HitAnswer) → Told c half n p f (next p) → Told c i n m f g'
+          by_right (first.Refused _) r = elim r [ ]
           by_right (first.Hit t s q) r = from_right half (t + 1) p q (first.Hit t s q) left r
           by_right (first.Clear q) r = from_right half n p q (first.Clear q) left r
           by_right (first.Spent t q) r = tt

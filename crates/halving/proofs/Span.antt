@@ -92,6 +92,8 @@ module _ (st : ℕ → ℕ → ℕ) (b k i m len : ℕ) (size : len ≡ 2 ^ k) (
       where
         go : (w : CastAnswer) → Walked st b j i (m + 1) w → Stopped w → w ≡ walk st b j i (m + 1)
             → l ≡ sets out i (take (cast_looked_at (i + half) w - i) (span_marks st j i)) → Cast w l
+        go (cast.Refused _) x5 stopped is wrote = elim x5 [ ]
+        go (cast.Complete _) _ stopped is wrote = elim stopped [ ]
         go (cast.Spent t p) (all, more, from, before) stopped is wrote = (
           sym (walk_is ∙ ap (λ (w : CastAnswer). and_then w (λ n. walk st b j (i + half) n)) (sym is)),
           wrote
@@ -160,6 +162,7 @@ Ended (first.Clear p) = ⊥
 Ended (first.Spent t p) = Unit {0}
 
 ended_stays : (f : HitAnswer) (next : ℕ → HitAnswer) → Ended f → or_else f next ≡ f
+ended_stays (first.Clear _) next e = elim e [ ]
 ended_stays (first.Refused n) next e = refl
 ended_stays (first.Hit t s p) next e = refl
 ended_stays (first.Spent t p) next e = refl
