@@ -1,6 +1,6 @@
 -- What a cast hands over: the marks of the ticks that it looked at, stored from the buffer's start on, and then 3 for the others (`handed-over`);
 -- of a complete one, every mark (`handed_all`).
-use Prim.Native.Nat.{ℕ, ◌+◌, ◌-◌, ◌≤◌}
+use Prim.Native.Nat.{ℕ, ◌-◌, ◌≤◌}
 use mathlib.Core.Path.{◌≡◌, sym, ap, ◌∙◌}
 use mathlib.Core.List.{List, ◌++◌, append-nil}
 use native.Mathlib.Omega.{arith}
