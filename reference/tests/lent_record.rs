@@ -26,7 +26,7 @@ mod worked;
 
 #[cfg(not(test_archive))]
 compile_error!(
-    "target/staticlib/libtesthost.a is missing: build it at the repository's root by: rt staticlib testhost"
+    "target/staticlib/libtesthost.a is missing: build it at the repository's root by: ./build staticlib/libtesthost.a staticlib testhost"
 );
 
 use calls::{Call, Request};

@@ -4,7 +4,7 @@
 
 #[cfg(not(archive))]
 compile_error!(
-    "target/staticlib/libfenalukki.a is missing: build it at the repository's root by: rt staticlib fenalukki"
+    "target/staticlib/libfenalukki.a is missing: build it at the repository's root by: ./build staticlib/libfenalukki.a staticlib fenalukki"
 );
 
 use reference::field::Ray;
