@@ -151,17 +151,20 @@ module _ (solid : Solid) (ray : Ray) where
 
       walk-counted : (w : CastAnswer) → Walked st budget k 0 0 w → Counted (2 ^ k) (ray_probes solid ray k) (enough (2 ^ k)) budget w
       unfolding Counted
+      walk-counted (cast.Refused _) x'' = elim x'' [ ]
       walk-counted (cast.Complete p) (is, in-budget) = (omega arith, omega arith, at_most)
       walk-counted (cast.Spent t p) (is, more, from, before) = (omega arith, is, omega arith, at_most)
 
       found_counted : (f : HitAnswer) → Found st budget k 0 0 f → CountedHit solid ray k budget f
       unfolding CountedHit
+      found_counted (found.Refused _) x'' = elim x'' [ ]
       found_counted (found.Hit t s p) (from, before, is, some, empty, few, in-budget) = (in-budget, omega arith, at_most)
       found_counted (found.Clear p) (empty, is, in-budget) = (omega arith, omega arith, at_most)
       found_counted (found.Spent t p) (from, before, empty, all, more) = (all, omega arith, at_most)
 
       found_alone : (f : HitAnswer) → Found st budget k 0 0 f → AloneHit solid ray (2 ^ k) f
       unfolding AloneHit Empty
+      found_alone (found.Refused _) x'' = elim x'' [ ]
       found_alone (found.Hit t s p) (from, before, is, some, empty, few, in-budget) =
           (omega arith, sym (tick_mark solid ray (2 ^ k) t) ∙ is, some, λ j h. sym (tick_mark solid ray (2 ^ k) j) ∙ empty j (omega arith) h)
       found_alone (found.Clear p) (empty, is, in-budget) = λ j h. sym (tick_mark solid ray (2 ^ k) j) ∙ empty j (omega arith) (omega arith)
