@@ -5,7 +5,7 @@
 -- (`first_marks`). Where a decided span decides each of its ticks alike (`Nested`), every mark is its tick's own state (`march_at`), and so the
 -- halving search's (`marks_equal`). Laws take a number f of candidates that reach the end, `Enough f i c`, which a probe hands on to f − 1
 -- (`enough-next`).
-use Prim.Native.Nat.{ℕ, zero, suc, ◌+◌, ◌-◌, ◌*◌, ◌/◌, ◌^◌, ◌≤◌, ◌<◌, min}
+use Prim.Native.Nat.{ℕ, zero, suc, ◌+◌, ◌-◌, ◌*◌, ◌/◌, ◌^◌, ◌≤◌, ◌<◌}
 use mathlib.Core.Path.{◌≡◌, refl, sym, ap, ◌∙◌}
 use mathlib.Core.Logic.{◌⊎◌, inl, inr}
 use mathlib.Core.List.{List, [], ◌++◌}
@@ -288,6 +288,7 @@ module _ (state : ℕ → ℕ → ℕ) (T : ℕ) where
 
   walked_probe : (f b i c m : ℕ) (w : CastAnswer) → 1 ≤ c → i < T
       → Walked f b (tick_after state T i c) (length_after state T i c) (m + 1) w → Walked (suc f) (suc b) i c m w
+  walked_probe f b i c m (Refused _) h lt x4 = elim x4 [ ]
   walked_probe f b i c m (Complete p) h lt (is, few) = (omega (arith, count_probe f i c lt), omega (arith, count_probe f i c lt))
   walked_probe f b i c m (Spent t p) h lt (is, more, from, before) =
       (omega arith, omega (arith, count_probe f i c lt), omega (arith, (next i c h lt).from), before)
@@ -321,6 +322,7 @@ module _ (state : ℕ → ℕ → ℕ) (T : ℕ) where
     counted = go (march state T b) whole
       where
         go : (w : CastAnswer) → Walked (march_enough T) b 0 first_length 0 w → Counted T (march_count state T) (march_enough T) b w
+        go (Refused _) x'' = elim x'' [ ]
         go (Complete p) (is, few) = (is ∙ zero-add (march_count state T), few, count_most (march_enough T))
         go (Spent t p) (is, more, from, before) = (before, is ∙ zero-add b, more, count_most (march_enough T))
 
@@ -329,6 +331,7 @@ module _ (state : ℕ → ℕ → ℕ) (T : ℕ) where
     enough h = go (march state T b) whole
       where
         go : (w : CastAnswer) → Walked (march_enough T) b 0 first_length 0 w → w ≡ Complete (march_count state T)
+        go (Refused _) x'' = elim x'' [ ]
         go (Complete p) (is, few) = ap Complete (is ∙ zero-add (march_count state T))
         go (Spent t p) (is, more, from, before) = absurd (omega arith)
 
@@ -357,6 +360,7 @@ module _ (state : ℕ → ℕ → ℕ) (T : ℕ) where
   -- the ticks looked at are those from tick i on
   pub looked_within : (f b i c m : ℕ) (w : CastAnswer) → i ≤ T → Walked f b i c m w → (i ≤ cast_looked_at T w) × (cast_looked_at T w ≤ T)
   unfolding cast_looked_at
+  looked_within f b i c m (Refused _) h w = elim w [ ]
   looked_within f b i c m (Complete p) h w = (h, omega arith)
   looked_within f b i c m (Spent t p) h (is, more, from, before) = (from, omega arith)
 
