@@ -5,7 +5,7 @@
 -- (`first_marks`). Where a decided span decides each of its ticks alike (`Nested`), every mark is its tick's own state (`march_at`), and so the
 -- halving search's (`marks_equal`). Laws take a number f of candidates that reach the end, `Enough f i c`, which a probe hands on to f − 1
 -- (`enough-next`).
-use Prim.Native.Nat.{ℕ, zero, suc, ◌+◌, ◌-◌, ◌*◌, ◌/◌, ◌^◌, ◌≤◌, ◌<◌, min}
+use Prim.Native.Nat.{ℕ, zero, suc, ◌+◌, ◌-◌, ◌*◌, ◌/◌, ◌^◌, ◌≤◌, ◌<◌}
 use mathlib.Core.Path.{◌≡◌, refl, sym, ap, ◌∙◌}
 use mathlib.Core.Logic.{◌⊎◌, inl, inr}
 use mathlib.Core.List.{List, [], ◌++◌}
