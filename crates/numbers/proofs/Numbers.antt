@@ -1,6 +1,6 @@
--- A host's place and ray as they are read (`hosts_place`, `hosts_ray`). The numbers that it gets fit, by what the calls promise: a refusal is at most
--- 18, and of 2^k ticks, k at most 12, a call has at most 2^(k+1) − 1 probes and a tick is below 2^k; a part has at most 511 nodes. The three numbers
--- that it lends are a record of totals (`lent_counts`, `lent_restores`).
+-- A host's place and ray as they are read (`hosts_place`, `hosts_ray`). The numbers that it gets fit, by what the calls promise: a refusal is at
+-- most 18, and of 2^k ticks, k at most 12, a call has at most 2^(k+1) − 1 probes and a tick is below 2^k; a part has at most 511 nodes. The three
+-- numbers that it lends are a record of totals (`lent_counts`, `lent_restores`).
 use mathlib.Core.Path.{◌≡◌, refl, sym, subst, ◌∙◌}
 use mathlib.Core.Logic.{inl, inr}
 use mathlib.Core.List.{List, [], ◌∷◌}

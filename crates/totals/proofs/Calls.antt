@@ -105,7 +105,8 @@ module _ (file : List ℕ) {n : ℕ} (t : Totals) where
   -- a call that its questions refuse counts as a refusal
   pub refused_counts : (c : Call) (room : ℕ) → first_no (questions_of file c room) ≡ No n → totals_after file c room t ≡ after_tally t Refused
   unfolding
-      totals_after answer_to tally_of cast_tally hit_tally column_tally full_cast cast_after first_hit hit_after column_answer column_after marching_cast
+      totals_after answer_to tally_of cast_tally hit_tally column_tally full_cast cast_after first_hit hit_after column_answer column_after
+      marching_cast
   refused_counts (call.FullCast ray budget) room e = rw e
   refused_counts (call.FirstHit ray budget) room e = rw e
   refused_counts (call.Column ray) room e = rw e

@@ -65,7 +65,8 @@ module _ {M : Type 1} {𝓤 : Ura M} {𝓛 : Logic 𝓤} {K : Type 0} {Γ : List
   -- the borrow of the totals is opened, and they are written out in their machine values
   opened : {G : Goal 𝓤 H} → K → Soaks G → {κ : Lft} {q : Share} (h : Totals) {γ : GName} (b o : ℕ)
       → (Is T.the_row h (vals h)
-      → Seq K 𝓛 (‵ (cell_at full_share (T.the_row).mir (vals h) b o) ∷ ‵ ((T.the_row).own_val h (vals h)) ∷ ‵ (fobor κ q (Body (mem T.the_row) b o γ))
+      → Seq K 𝓛 (‵ (cell_at full_share (T.the_row).mir (vals h) b o) ∷ ‵ ((T.the_row).own_val h (vals h))
+      ∷ ‵ (fobor κ q (Body (mem T.the_row) b o γ))
       ∷ ‵ (fobs γ ((T.the_row).coded.code h)) ∷ ‵ (fauth γ ((T.the_row).coded.code h)) ∷ Γ) G)
       → Seq K 𝓛 (‵ (fobs γ ((T.the_row).coded.code h)) ∷ ‵ (fbor κ (Body (mem T.the_row) b o γ)) ∷ ‵ (flft κ q) ∷ Γ) G
   opened t z h b o k =
@@ -75,7 +76,8 @@ module _ {M : Type 1} {𝓤 : Ura M} {𝓛 : Logic 𝓤} {K : Type 0} {Γ : List
 
   pub lends : {G : Goal 𝓤 H} → K → Soaks G → (ℓ : Lifetime) (h : Totals) (b : ℕ)
       → ((α : ℕ) (γ : GName)
-      → Seq K 𝓛 (‵ (flft (α ∷ []) full_share) ∷ ‵ ((MutRef ℓ (α ∷ []) T.the_row).own_val (record { ref_ptr = (b, zero); ghost_name = γ; now = h }) (vptr b zero ∷ []))
+      → Seq K 𝓛 (‵ (flft (α ∷ []) full_share)
+      ∷ ‵ ((MutRef ℓ (α ∷ []) T.the_row).own_val (record { ref_ptr = (b, zero); ghost_name = γ; now = h }) (vptr b zero ∷ []))
       ∷ ‵ (flent (α ∷ []) (Body (mem T.the_row) b zero γ)) ∷ Γ) G)
       → Seq K 𝓛 (‵ (fat full_share T'.mir b zero (val h)) ∷ ‵ ((T.the_row).own_val h (vals h)) ∷ Γ) G
   unfolding part_of
@@ -83,7 +85,8 @@ module _ {M : Type 1} {𝓤 : Ura M} {𝓛 : Logic 𝓤} {K : Type 0} {Γ : List
       use1 𝓛 (‵ (cell_at full_share (T.the_row).mir (vals h) b zero)) (𝓛.laws.at_raw full_share T'.mir b zero (val h)) $
       fjoin t $ fpack t (List Val) (λ us. fsep (cell_at full_share (T.the_row).mir us b zero) ((T.the_row).own_val h us)) (vals h) $
       lft_new t z (λ α. move t (1 ∷ []) $
-      use1 𝓛 (later (some (λ (γ : GName). ‵ ((MutRef ℓ (α ∷ []) T.the_row).own_val (record { ref_ptr = (b, zero); ghost_name = γ; now = h }) (vptr b zero ∷ []))
+      use1 𝓛 (later (some (λ (γ : GName).
+      ‵ ((MutRef ℓ (α ∷ []) T.the_row).own_val (record { ref_ptr = (b, zero); ghost_name = γ; now = h }) (vptr b zero ∷ []))
       ⊛ ‵ (flent (α ∷ []) (Body (mem T.the_row) b zero γ))))) (lends_ref 𝓛 T.the_row ℓ (α ∷ []) h b zero) $
       await t z $ pick t (λ γ. split t $ move t (2 ∷ 0 ∷ 1 ∷ []) $ k α γ))
 

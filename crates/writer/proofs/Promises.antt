@@ -140,7 +140,8 @@ module _ (file : List ℕ) (i v : ℕ) (buffer : List ℕ) (f : ReadFrom file (n
   returned : (write_answer (numbers (nodes file)) i v (length buffer) 0 ≡ End (length file))
       × (buffer_left (numbers (nodes file)) i v buffer 0 ≡ file ++ drop (length file) buffer)
   returned =
-      let e : part_bytes (given (numbers (nodes file))) i v ≡ file = ap (λ (ns : List Node). part_bytes ns i v) (given-numbers (nodes file)) ∙ same in (
+      let e : part_bytes (given (numbers (nodes file))) i v ≡ file =
+      ap (λ (ns : List Node). part_bytes ns i v) (given-numbers (nodes file)) ∙ same in (
         answer_end (numbers (nodes file)) i v buffer 0 questions_yes ∙ ap End ends,
         buffer_written (numbers (nodes file)) i v buffer 0 questions_yes ∙ ap₂ (λ (u : List ℕ) (j : ℕ). u ++ drop j buffer) e ends,
       )

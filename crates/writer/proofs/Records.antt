@@ -1,5 +1,5 @@
--- A record's bytes read back. `records_back ns held rest ok : records_from (records_bytes ns ++ rest) (length ns) 0 ≡ map record_of ns`, from `ok`, that
--- the questions accept the nodes: whatever follows them.
+-- A record's bytes read back. `records_back ns held rest ok : records_from (records_bytes ns ++ rest) (length ns) 0 ≡ map record_of ns`, from `ok`,
+-- that the questions accept the nodes: whatever follows them.
 use Prim.Native.Nat.{ℕ, ◌+◌, ◌-◌, ◌*◌, ◌/◌, ◌%◌, ◌≤◌, ◌<◌}
 use native.Mathlib.Omega.{arith}
 use mathlib.Core.Path.{◌≡◌, refl, sym, ap, ap₂, ◌∙◌, subst}
@@ -125,7 +125,8 @@ point_zeros : (n : Node) (rest : List ℕ) → zeros (record_bytes n ++ rest) 1 
 unfolding zeros has_bytes record_bytes
 point_zeros n rest = refl
 
-pub record_back : (n : Node) (rest : List ℕ) → Storable n → for_operator n (others_zero n) ≡ true → record_at (record_bytes n ++ rest) 0 ≡ record_of n
+pub record_back : (n : Node) (rest : List ℕ) → Storable n → for_operator n (others_zero n) ≡ true
+    → record_at (record_bytes n ++ rest) 0 ≡ record_of n
 unfolding record_at zero_bytes record_of
 record_back n rest s e = rw (node_back n rest s, e) (ap (λ (t : Bool). record { node = n; zeroed = t }) (go (is_point n) refl))
   where
@@ -207,6 +208,7 @@ bytes_step l n at out to h =
     (sym (sets-append (record_bytes (node_in l at)) v out to)
     ∙ ap (λ (k : ℕ). sets (sets out to (record_bytes (node_in l at))) (to + k) v) (length_record (node_in l at)))
 
-pub storable_step : (l : List ℤ) (n at : ℕ) → 0 < n → AllStorable (nodes_in l n at) → Storable (node_in l at) × AllStorable (nodes_in l (n - 1) (at + 6))
+pub storable_step : (l : List ℤ) (n at : ℕ) → 0 < n → AllStorable (nodes_in l n at)
+    → Storable (node_in l at) × AllStorable (nodes_in l (n - 1) (at + 6))
 unfolding AllStorable
 storable_step l n at h s = rw (given-step l n at h) at s

@@ -27,7 +27,8 @@ module _ (body : List ℕ) (count i v : ℕ) where
   pub distance_back : count ≤ 511 → distance (body ++ trailer_bytes count i v) ≡ size count
   unfolding distance u32 u16 size trailer_bytes u16_bytes u32_bytes
   distance_back h =
-      rw (back body (trailer_bytes count i v) 8 (omega arith)) (u32_moved body (trailer_bytes count i v) 4 ∙ u32_back (12 * count + 12) (omega arith))
+      rw (back body (trailer_bytes count i v) 8 (omega arith))
+      (u32_moved body (trailer_bytes count i v) 4 ∙ u32_back (12 * count + 12) (omega arith))
 
   pub marked_back : marked (body ++ trailer_bytes count i v) ≡ true
   unfolding marked has_bytes trailer_bytes u16_bytes u32_bytes
