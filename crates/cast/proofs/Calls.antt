@@ -83,7 +83,8 @@ module _ (file : List ℕ) (ray : Ray) where
 
     -- a tick's bit, by the marks that the search finds, is its own
     pub bits_are : (k budget : ℕ) → 2 ^ k ≤ 2048 → (t : ℕ) → t < 2 ^ k
-        → bit_in l (searched part (2 ^ k) budget) (span_marks (state_in l (searched part (2 ^ k) budget)) k 0) t ≡ bit_of (solid_of file) ray (2 ^ k) t
+        → bit_in l (searched part (2 ^ k) budget) (span_marks (state_in l (searched part (2 ^ k) budget)) k 0) t
+        ≡ bit_of (solid_of file) ray (2 ^ k) t
     unfolding bit_in middle_in bit_of middle_solid
     bits_are k budget few t h =
         let agree = states_are (2 ^ k) budget (pow_pos k) (omega arith) in
@@ -201,4 +202,5 @@ module _ (file : List ℕ) (ray : Ray) (lent : List ℕ) where
       let v = answer_accepted (first_no (buffer_questions file ray column_bytes (length lent))) file e in
       column_promised _ l (rw v (ap column.Complete (probes ∙ count_within agree exponent 0 (omega arith))))
       (rw v (bytes
-      ∙ ap (λ (m : List ℕ). m ++ drop column_bytes lent) (packed_same bit (bit_of (solid_of file) ray (2 ^ exponent)) column_bytes (λ t h. same t h))))
+      ∙ ap (λ (m : List ℕ). m ++ drop column_bytes lent)
+      (packed_same bit (bit_of (solid_of file) ray (2 ^ exponent)) column_bytes (λ t h. same t h))))

@@ -128,7 +128,8 @@ module _ (state : ℕ → ℕ → ℕ) where
     ]
 
     -- the ticks looked at are those of the span, from its first on
-    pub looked_within : (k i m : ℕ) (w : CastAnswer) → Walked k i m w → (i ≤ cast_looked_at (i + 2 ^ k) w) × (cast_looked_at (i + 2 ^ k) w ≤ i + 2 ^ k)
+    pub looked_within : (k i m : ℕ) (w : CastAnswer) → Walked k i m w
+        → (i ≤ cast_looked_at (i + 2 ^ k) w) × (cast_looked_at (i + 2 ^ k) w ≤ i + 2 ^ k)
     unfolding cast_looked_at
     looked_within k i m (Refused _) h = elim h [ ]
     looked_within k i m (Complete p) h = (omega arith, omega arith)

@@ -55,7 +55,8 @@ module _ (solid : Solid) (ray : Ray) (k : ℕ) where
       → MarchDemands solid ray k budget (cast_after v (ray_march solid ray k budget))
       (marks_after v (2 ^ k) (ray_march solid ray k budget) (marched_marks solid ray k) lent)
   march_by v budget lent valid number = record {
-    marks = marks_by solid ray (2 ^ k) (march_probes solid ray k) (march_enough (2 ^ k)) budget (ray_march solid ray k budget) (marched_marks solid ray k)
+    marks =
+        marks_by solid ray (2 ^ k) (march_probes solid ray k) (march_enough (2 ^ k)) budget (ray_march solid ray k budget) (marched_marks solid ray k)
         (counted st (2 ^ k) budget) (length-march st (2 ^ k))
         (λ ok t h. march_at st (2 ^ k) (ray_nested solid ok ray (pow_pos k)) t not_looked_at h ∙ tick_mark solid ray (2 ^ k) t)
         (pow_pos k) v lent valid number;

@@ -3,7 +3,8 @@ use mathlib.Core.Path.{sym, ◌∙◌}
 use borrow.Author.Tests.{eq-eqb, ne_eqb}
 use Rattle.cast.specs.Column.{tick_bit}
 use Rattle.cast.proofs.tick_byte.Goals as goal
-use Rattle.cast.proofs.tick_byte.Goals.{else-mark-eq-CROSSING-via-then-mark-eq-CROSSING+else-middle_solid, else-mark-eq-CROSSING-via-else-mark-eq-CROSSING}
+use Rattle.cast.proofs.tick_byte.Goals.{else-mark-eq-CROSSING-via-then-mark-eq-CROSSING+else-middle_solid}
+use Rattle.cast.proofs.tick_byte.Goals.{else-mark-eq-CROSSING-via-else-mark-eq-CROSSING}
 
 pub returns-then-mark-eq-INSIDE : goal.returns-then-mark-eq-INSIDE
 unfolding tick_bit

@@ -2,7 +2,8 @@ use Rattle.halving.specs.Search.{state_in}
 use Rattle.march.proofs.Marching.{cut_is}
 use Rattle.march.proofs.Turns.{is_halved, is_finished}
 use Rattle.march.proofs.advance.Goals as goal
-use Rattle.march.proofs.advance.Goals.{else-state-eq-CROSSING-via-then-state-eq-CROSSING+else-len-gt1, else-state-eq-CROSSING-via-else-state-eq-CROSSING}
+use Rattle.march.proofs.advance.Goals.{else-state-eq-CROSSING-via-then-state-eq-CROSSING+else-len-gt1}
+use Rattle.march.proofs.advance.Goals.{else-state-eq-CROSSING-via-else-state-eq-CROSSING}
 
 -- undecided and longer than one tick
 pub returns-then-len-gt1 : goal.returns-then-len-gt1

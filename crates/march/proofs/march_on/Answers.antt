@@ -7,7 +7,8 @@ pub returns-then-s-made : goal.returns-then-s-made
 returns-then-s-made c =
     let a = c.args in
     let l = c.loop-at in
-    let f = is_spent (state_in a.prepared.now a.s) a.s.ticks a.s.budget a.out.now l.out l.at l.made l.invariant c.loop-at-test.true c.if-s-made.true in
+    let f = is_spent (state_in a.prepared.now a.s) a.s.ticks a.s.budget a.out.now l.out l.at l.made l.invariant
+    c.loop-at-test.true c.if-s-made.true in
     record { answer = f.0; bytes = f.1 }
 
 pub loop-at-preserved : goal.loop-at-preserved
