@@ -9,7 +9,7 @@ use native.Mathlib.Omega.{arith}
 use lib.Dec.{eqb}
 use lib.IntN.{ℤ, pos, nat_abs, ◌+ℤ◌, ◌*ℤ◌}
 use Rattle.exact.specs.Fraction.{Fraction, ◌over◌, Proper, ◌≼◌, plus, times}
-use Rattle.exact.proofs.Ring.{◌⊕◌, ◌⊗◌, #, ◌≔◌, ring}
+use Rattle.exact.proofs.Ring.{◌⊕◌, ◌⊗◌, ◌≔◌, ring}
 use Rattle.exact.proofs.Order.{nn_pos, ≤ℤ_of_eq}
 use Rattle.exact.proofs.Fractions.{plus_proper, plus_mono}
 use Rattle.record.specs.declared.Node.{Node}
@@ -18,7 +18,7 @@ use Rattle.part.specs.declared.Summary.{Summary}
 use Rattle.part.specs.Accepted.{Tree}
 use Rattle.field.specs.declared.Ray.{Ray}
 use Rattle.field.specs.Ray.{radius, extent}
-use Rattle.field.specs.Kernel.{Kernel, quartic, sextic}
+use Rattle.field.specs.Kernel.{quartic, sextic}
 use Rattle.field.specs.Tree.{Item, point, operator, items, Postfix}
 use Rattle.field.specs.Solid.{Solid, kernel_of}
 use Rattle.field.specs.Tolerance.{demanded_of, demanded_in1024, demanded, sum_over}

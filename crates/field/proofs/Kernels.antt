@@ -1,8 +1,8 @@
 -- Both kernels are lawful: `quartic_lawful`, `sextic_lawful`. This is all that theorems 1 to 5 need to know of a degree.
-use mathlib.Core.Path.{◌≡◌, refl, sym, ◌∙◌, ap, ap₂, subst}
+use mathlib.Core.Path.{◌≡◌, refl, sym, ap, subst}
 use mathlib.Core.Logic.{inl, inr}
 use Prim.Native.Nat.{ℕ, zero, suc, ◌+◌, ◌*◌, ◌-◌, ◌/◌, ◌^◌, ◌≤◌}
-use native.Mathlib.Nat.{le_of_eq, le_trans, mul_assoc, one-mul, mul-le-mul, mul-le-mul_right, div-mul-le_self, pow-zero, pow-suc, pow-le-pow_left}
+use native.Mathlib.Nat.{le_of_eq, le_trans, mul_assoc, mul-le-mul, mul-le-mul_right, div-mul-le_self, pow-zero, pow-suc, pow-le-pow_left}
 use native.Mathlib.Omega.{arith}
 use lib.IntN.{pos}
 use Rattle.exact.specs.Rounding.{ceil}

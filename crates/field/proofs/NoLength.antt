@@ -4,7 +4,7 @@
 -- what demand 3 allows is for rounding alone (`demanded_place`), and demand 3 holds with that (`marks_place`).
 use mathlib.Core.Path.{◌≡◌, refl, sym, ap, ap₂, ◌∙◌}
 use mathlib.Core.Bool.{Bool, true, false}
-use Prim.Native.Nat.{ℕ, ◌+◌, ◌*◌, ◌-◌, ◌≤◌, ◌<◌, min, max}
+use Prim.Native.Nat.{ℕ, ◌*◌, ◌-◌, ◌≤◌, ◌<◌, min, max}
 use native.Mathlib.Nat.{le_antisymm, le_of_eq, mul_assoc, mul_right_comm, mul-one, mul-zero, mul-pos, max-eq_left, min-eq_left, le_refl}
 use native.Mathlib.Omega.{arith}
 use lib.IntN.{ℤ, pos, nat_abs, ◌+ℤ◌, ◌*ℤ◌}

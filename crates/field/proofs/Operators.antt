@@ -8,10 +8,10 @@ use native.Mathlib.Omega.{arith}
 use lib.IntN.{ℤ, pos, nat_abs, ◌+ℤ◌, ◌-ℤ◌}
 use lib.Signed.{◌≤ℤ◌, ≤ℤ_refl}
 use Rattle.exact.specs.Extrema.{max_ℤ, min_ℤ}
-use Rattle.exact.specs.Fraction.{Fraction, Proper, ◌≼◌, plus, less, greater, lesser}
+use Rattle.exact.specs.Fraction.{Fraction, Proper, ◌≼◌, plus, greater, lesser}
 use Rattle.exact.proofs.Ring.{◌⊕◌, ◌⊖◌, ◌≔◌, ring}
 use Rattle.exact.proofs.Linear.{down, cross, sub_parts, nat_abs_parts}
-use Rattle.exact.proofs.Order.{≤ℤ_of_eq, add_mono, sub_mono}
+use Rattle.exact.proofs.Order.{add_mono, sub_mono}
 use Rattle.exact.proofs.Absolute.{nat_abs-add}
 use Rattle.exact.proofs.Picks.{picked, spread, carried}
 use Rattle.exact.proofs.Extrema.{min_is, max_picks, min_picks, max_mono, min_mono, nat_abs-max, nat_abs-min}
