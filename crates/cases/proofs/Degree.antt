@@ -4,7 +4,7 @@ use mathlib.Core.Path.{◌≡◌, refl}
 use mathlib.Core.List.{List, [], ◌∷◌, ◌++◌, map}
 use Prim.Native.Nat.{ℕ}
 use lib.ListN.{replicate}
-use lib.IntN.{ℤ, pos, neg_ℤ}
+use lib.IntN.{pos, neg_ℤ}
 use Rattle.exact.specs.Extrema.{max_ℤ}
 use Rattle.exact.specs.Fraction.{◌over◌, plus}
 use Rattle.exact.specs.Rounding.{ceil}

@@ -1,7 +1,7 @@
 -- Overlaps and cut-outs (document 02, P1) as rows of a table that one theorem covers: lesser and cut, at places and along rays.
 use mathlib.Core.Path.{◌≡◌, refl}
 use mathlib.Core.List.{List, [], ◌∷◌, ◌++◌, map}
-use Prim.Native.Nat.{ℕ, ◌+◌, ◌*◌}
+use Prim.Native.Nat.{ℕ, ◌+◌}
 use lib.ListN.{length, replicate}
 use lib.IntN.{pos, neg_ℤ}
 use Rattle.exact.specs.Extrema.{max_ℤ, min_ℤ}

@@ -2,18 +2,18 @@
 -- that document 01 prints the list of. Each theorem takes what a contract promises, `CastDemands` and its like, and a wrong answer or byte, and
 -- cites the field of the promise that the two contradict; without that field it is not proved. `constant_refusal` and `asked_12_first` are of the
 -- answer that the contract's equation names.
---     constant-crossing, constant-inside, hit-at-start         demand 3: `sound`
---     empty-column, fat-column; solid-column                   a column's bits: `alone`; and the marks: `sound`
---     solid-middle, middle-outside                             the exact field at the ticks' middles: `middles`
---     constant-empty, untouched, left-half-honest, later-hit   demand 2's marks: `alone`
---     spent-at-once, spent-early, invented-probes              the count rule: `counted`
---     cast-probes, march-probes                                the same, with the count of the halvings and of the march
+--     constant_crossing, constant_inside, hit_at_start         demand 3: `sound`
+--     empty_column, fat_column; solid_column                   a column's bits: `alone`; and the marks: `sound`
+--     solid_middle, middle_outside                             the exact field at the ticks' middles: `middles`
+--     constant_empty, untouched, left_half_honest, later_hit   demand 2's marks: `alone`
+--     spent_at_once, spent_early, invented_probes              the count rule: `counted`
+--     cast_probes, march_probes_lem                            the same, with the count of the halvings and of the march
 --     unlike                                                   a marching cast's marks are a full cast's: `alike`
---     hit-probes                                               a first hit's order: `order`
---     dear-hit, spent-late; spent-in-time                      what it costs: `prompt`; and that it is found: `in_time`
---     as-hit, as-clear, as-spent; inexact-entry                a viewer's first hit: these four; `exact`
---     constant-refusal, asked-12-first                         the equation of a full cast's answer
---     two-nodes, not-enclosing, loose                          the check of a file (`Says`) and the bounds at a place (`PlaceSays`)
+--     hit_probes                                               a first hit's order: `order`
+--     dear_hit, spent_late; spent_in_time                      what it costs: `prompt`; and that it is found: `in_time`
+--     as_hit, as_clear, as_spent; inexact_entry                a viewer's first hit: these four; `exact`
+--     constant_refusal, asked_12_first                         the equation of a full cast's answer
+--     two_nodes, not_enclosing, loose                          the check of a file (`Says`) and the bounds at a place (`PlaceSays`)
 use mathlib.Core.Path.{◌≡◌, refl, sym, ap, ◌∙◌, subst}
 use mathlib.Core.List.{List}
 use Prim.Native.Nat.{ℕ, ◌+◌, ◌*◌, ◌/◌, ◌%◌, ◌^◌, ◌≤◌, ◌<◌}

@@ -1,10 +1,10 @@
 -- Worked writes as rows of a table that one theorem covers (document 02, P2 and P9): numbers, iso-value, version, the buffer's length, the
 -- place, and what the questions answer; the bytes of three parts; and wrong bytes that the writer's promise refutes, each by one of its fields:
 --     exchanged                     `read`
---     other-iso, other-version      `checked`
---     cleared-before, cleared-after `before_kept`, `after_kept`
---     changed-refused               a refused call changes no byte
---     other-file                    `Returned`
+--     other_iso, other_version      `checked`
+--     cleared_before, cleared_after `before_kept`, `after_kept`
+--     changed_refused               a refused call changes no byte
+--     other_file                    `Returned`
 use Prim.Native.Nat.{ℕ, zero, suc}
 use native.Mathlib.Nat.{not-suc-le-zero}
 use native.Mathlib.Omega.{arith}

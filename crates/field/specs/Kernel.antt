@@ -30,7 +30,7 @@ quartic = record { power = 2; low = λ q. q * q; high = λ q. q * q; slope = 4; 
 abbrev pub sextic : Kernel
 sextic = record { power = 3; low = λ q. q * q * q / 65536; high = λ q. ceil (q * q * q) 65536; slope = 6; slack = pos 7 over 65536 }
 
--- ---- u at the place n/m: uNum/uDen
+-- ---- u at the place n/m: u_num/u_den
 
 -- r² × m²
 abbrev pub u_den : Node → ℕ → ℕ
