@@ -31,7 +31,7 @@ impl Repository {
         fs::copy(script, repository.root.join("build")).expect("the script");
         repository.write(
             "path/rt",
-            "#!/bin/sh\necho call >>calls\n: >target/bin/one\n",
+            "#!/bin/sh\necho call >>../../calls\nmkdir -p out\n: >out/one\n",
         );
         let rt = repository.root.join("path/rt");
         fs::set_permissions(rt, fs::Permissions::from_mode(0o755)).expect("a mode");

@@ -3,7 +3,14 @@
 use std::fs;
 use std::path::{Path, PathBuf};
 
-const FOLDERS: [&str; 5] = ["docs", "examples", "include", "reference", "robust"];
+const FOLDERS: [&str; 6] = [
+    "docs",
+    "examples",
+    "include",
+    "reference",
+    "robust",
+    "tools",
+];
 
 fn root() -> PathBuf {
     Path::new(env!("CARGO_MANIFEST_DIR")).join("..")
@@ -33,9 +40,15 @@ fn is_path(word: &str) -> bool {
     known && word.contains('/') && !word.contains(' ') && !word.contains("CRATE")
 }
 
+/// What stands in a folder of the repository, but for `out`, where the toolchain keeps what it makes.
+fn entries(folder: &Path) -> impl Iterator<Item = PathBuf> {
+    let entries = fs::read_dir(folder).expect("a folder");
+    let paths = entries.map(|e| e.expect("an entry").path());
+    paths.filter(|path| !path.ends_with("out"))
+}
+
 /// The names and the text of all files below a folder.
 fn all_text(folder: &Path) -> String {
-    let entries = fs::read_dir(folder).expect("a folder");
     let text = |path: PathBuf| {
         let inner = match path.is_dir() {
             true => all_text(&path),
@@ -43,7 +56,7 @@ fn all_text(folder: &Path) -> String {
         };
         format!(" {} {inner}", path.display())
     };
-    entries.map(|e| text(e.expect("an entry").path())).collect()
+    entries(folder).map(text).collect()
 }
 
 /// Whether a word stands in a text by itself.
@@ -67,7 +80,9 @@ fn the_readme_shows_the_host_and_the_contract_as_they_are() {
 fn every_crate_and_folder_is_on_the_map() {
     let readme = read("README.md");
     let crates = read("crates.txt");
-    let names = crates.lines().filter_map(|line| line.split(':').next());
+    let names = crates
+        .lines()
+        .filter_map(|line| line.split([' ', ':']).next());
     let rows = names.map(|name| format!("crates/{name}"));
     for row in rows.chain(FOLDERS.map(String::from)) {
         assert!(readme.contains(&format!("| `{row}` |")), "{row}");
@@ -157,12 +172,11 @@ fn every_name_in_a_document_is_in_the_crates() {
 
 /// The files of a folder, and of those below it, that hold code, definitions or proofs.
 fn sources(folder: &Path) -> Vec<PathBuf> {
-    let entries = fs::read_dir(folder).expect("a folder");
     let below = |path: PathBuf| match path.is_dir() {
         true => sources(&path),
         false => vec![path],
     };
-    let files = entries.flat_map(|e| below(e.expect("an entry").path()));
+    let files = entries(folder).flat_map(below);
     let known = |path: &PathBuf| path.extension().is_some_and(|e| e == "rt" || e == "antt");
     files.filter(known).collect()
 }

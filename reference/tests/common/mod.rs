@@ -12,7 +12,9 @@ pub fn printed(name: &str, input: &[u8], most: usize) -> String {
         .stdin(Stdio::piped())
         .stdout(Stdio::piped())
         .spawn()
-        .unwrap_or_else(|_| panic!("target/bin/{name} is built by: ./build bin/{name} check {name}"));
+        .unwrap_or_else(|_| {
+            panic!("target/bin/{name} is built by: ./build bin/{name} check {name}")
+        });
     let mut stdin = child.stdin.take().expect("piped");
     let sent = stdin.write_all(input);
     assert!(sent.is_ok() || input.len() > most);
