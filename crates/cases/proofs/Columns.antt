@@ -91,15 +91,15 @@ ticks_from (suc n) t = t ∷ ticks_from n (suc t)
 pub solid_ticks : map (bit_of (solid_of file_k) (across (pos 0)) (2 ^ exponent)) (ticks_from 1024 0)
     ≡ replicate 331 0 ++ replicate 362 1 ++ replicate 331 0
 unfolding
-    ticks_from u16 u32 i16 is_point iso distance start count node_at zero_bytes record_at records_from nodes_from nodes ceil operator_of item_of items join_top
-    step run tree_value version kernel_of ray_square prepare distance_at foot_inside foot_distance low_q high_q qlo qhi weighted point_bounds join_bounds
-    tree_bounds state_of span_state mark_of solid_by middle_solid tick_bit bit_of
+    ticks_from u16 u32 i16 is_point iso distance start count node_at zero_bytes record_at records_from nodes_from nodes ceil operator_of item_of
+    items join_top step run tree_value version kernel_of ray_square prepare distance_at foot_inside foot_distance low_q high_q qlo qhi weighted
+    point_bounds join_bounds tree_bounds state_of span_state mark_of solid_by middle_solid tick_bit bit_of
 solid_ticks = refl
 
 -- the strut's ticks are marked; their bits are 0 in the row of `columns`
 pub strut_marked : ray_marks (solid_of strut) wide exponent ≡ replicate 511 empty_mark ++ replicate 2 crossing_mark ++ replicate 511 empty_mark
 unfolding
-    u16 u32 i16 is_point iso distance start count node_at zero_bytes record_at records_from nodes_from nodes ceil operator_of item_of items join_top step run
-    tree_value version kernel_of ray_square prepare distance_at foot_inside foot_distance low_q high_q qlo qhi weighted point_bounds join_bounds tree_bounds
-    state_of span_state ray_state span_marks
+    u16 u32 i16 is_point iso distance start count node_at zero_bytes record_at records_from nodes_from nodes ceil operator_of item_of items join_top
+    step run tree_value version kernel_of ray_square prepare distance_at foot_inside foot_distance low_q high_q qlo qhi weighted point_bounds
+    join_bounds tree_bounds state_of span_state ray_state span_marks
 strut_marked = refl

@@ -81,6 +81,6 @@ sizes = refl
 pub exact_sixth : (field_at (solid_of file_k2) (constant_ray (at (pos 362) (pos 0))) 0 1 ≡ pos 9012972924000000 over 18014398509481984)
     × (demanded (solid_of file_k2) (across (pos 0)) 1024 ≡ pos 3235905536 over 34359738368)
 unfolding
-    u16 u32 i16 is_point iso version distance start count node_at zero_bytes record_at records_from nodes_from nodes operator_of item_of items join_top step
-    run tree_value kernel_of plus squared_distance point_at field_at demanded_of sum_over demanded
+    u16 u32 i16 is_point iso version distance start count node_at zero_bytes record_at records_from nodes_from nodes operator_of item_of items
+    join_top step run tree_value kernel_of plus squared_distance point_at field_at demanded_of sum_over demanded
 exact_sixth = (refl, refl)

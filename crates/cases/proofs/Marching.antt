@@ -136,7 +136,7 @@ far_ray = record { start = at (pos 0) (pos 0); end = at (pos 1) (pos 0) }
 -- its probe count is the most that there is
 pub met : march_probes (solid_of far_file) far_ray exponent ≡ march_enough (2 ^ exponent)
 unfolding
-    u16 u32 i16 is_point iso distance start count node_at zero_bytes record_at records_from nodes_from nodes ceil max_ℤ operator_of item_of items join_top
-    step run tree_value version kernel_of ray_square prepare distance_at foot_inside foot_distance low_q high_q qlo qhi weighted point_bounds join_bounds
-    tree_bounds state_of span_state ray_state next_tick next_length count_from
+    u16 u32 i16 is_point iso distance start count node_at zero_bytes record_at records_from nodes_from nodes ceil max_ℤ operator_of item_of items
+    join_top step run tree_value version kernel_of ray_square prepare distance_at foot_inside foot_distance low_q high_q qlo qhi weighted
+    point_bounds join_bounds tree_bounds state_of span_state ray_state next_tick next_length count_from
 met = refl

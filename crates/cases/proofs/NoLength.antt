@@ -23,7 +23,8 @@ use Rattle.field.specs.Ray.{constant_ray}
 use Rattle.field.specs.Tree.{operator_of, item_of, items, join_top, step, run, tree_value}
 use Rattle.field.specs.Solid.{Solid, kernel_of, solid_of}
 use Rattle.field.specs.Bounds.{ray_square, prepare, distance_at, foot_inside, foot_distance, low_q, high_q, qlo, qhi}
-use Rattle.field.specs.Bounds.{weighted, point_bounds, join_bounds, tree_bounds, state_of, solid_by, empty_mark, crossing_mark, inside_mark, not_looked_at}
+use Rattle.field.specs.Bounds.{weighted, point_bounds, join_bounds, tree_bounds, state_of, solid_by, empty_mark, crossing_mark, inside_mark}
+use Rattle.field.specs.Bounds.{not_looked_at}
 use Rattle.field.specs.Marks.{span_state, mark_of}
 use Rattle.loading.specs.Loading.{position_in_range, ray_in_range, ray_questions}
 use Rattle.bounds.specs.declared.BoundsAnswer.{BoundsAnswer}
@@ -144,11 +145,11 @@ pub placed : map (λ r. answers r.0) rows ≡ map (λ r. r.1) rows
 unfolding
     rows u16 u32 i16 has_bytes zeros first_no is_point kind_known coordinate in_range for_point for_operator held_after node_questions
     record_questions records_questions iso version distance marked trailer_questions start count node_at zero_bytes record_at records_from records
-    nodes_from nodes file_questions ceil max_ℤ operator_of item_of items join_top step run tree_value kernel_of ray_square prepare distance_at foot_inside
-    foot_distance low_q high_q qlo qhi weighted point_bounds join_bounds tree_bounds state_of span_state mark_of position_in_range ray_in_range ray_questions
-    place_questions place_answer place_bounds probe_count span_marks walk cast_looked_at handed hit ray_state buffer_questions cast_after full_cast marks_after
-    marks_left hit_after first_hit solid_by middle_solid tick_bit bit_of from_bits packed column_after column_answer bits_after bits_left next_tick next_length
-    marching.marked marks_from walk_from marching_cast marched_left
+    nodes_from nodes file_questions ceil max_ℤ operator_of item_of items join_top step run tree_value kernel_of ray_square prepare distance_at
+    foot_inside foot_distance low_q high_q qlo qhi weighted point_bounds join_bounds tree_bounds state_of span_state mark_of position_in_range
+    ray_in_range ray_questions place_questions place_answer place_bounds probe_count span_marks walk cast_looked_at handed hit ray_state
+    buffer_questions cast_after full_cast marks_after marks_left hit_after first_hit solid_by middle_solid tick_bit bit_of from_bits packed
+    column_after column_answer bits_after bits_left next_tick next_length marching.marked marks_from walk_from marching_cast marched_left
 placed = refl
 
 -- ---- wrong answers
@@ -185,9 +186,9 @@ view_13 file ray d = elim d.counted [ inl c ↦ omega (arith, c.1) | inr c ↦ o
 -- every tick is the centre, where the field is 4 times the iso-value
 stay_inside : mark_of K stay 1024 0 ≡ inside_mark
 unfolding
-    u16 u32 i16 is_point iso distance start count node_at zero_bytes record_at records_from nodes_from nodes ceil operator_of item_of items join_top step run
-    tree_value version kernel_of ray_square prepare distance_at foot_inside foot_distance low_q high_q qlo qhi weighted point_bounds join_bounds tree_bounds
-    state_of span_state mark_of
+    u16 u32 i16 is_point iso distance start count node_at zero_bytes record_at records_from nodes_from nodes ceil operator_of item_of items join_top
+    step run tree_value version kernel_of ray_square prepare distance_at foot_inside foot_distance low_q high_q qlo qhi weighted point_bounds
+    join_bounds tree_bounds state_of span_state mark_of
 stay_inside = refl
 
 -- equal ends marked empty

@@ -46,7 +46,8 @@ use Rattle.field.specs.Solid.{Solid, kernel_of, solid_of}
 use Rattle.field.specs.Field.{field_at}
 use Rattle.field.specs.Tolerance.{demanded_of, sum_over, demanded, rounding_of, rounding}
 use Rattle.field.specs.Bounds.{ray_square, prepare, distance_at, foot_inside, foot_distance, low_q, high_q, qlo, qhi}
-use Rattle.field.specs.Bounds.{weighted, point_bounds, join_bounds, tree_bounds, state_of, solid_by, empty_mark, crossing_mark, inside_mark, not_looked_at}
+use Rattle.field.specs.Bounds.{weighted, point_bounds, join_bounds, tree_bounds, state_of, solid_by, empty_mark, crossing_mark, inside_mark}
+use Rattle.field.specs.Bounds.{not_looked_at}
 use Rattle.field.specs.Marks.{span_state, mark_of, SoundMark}
 use Rattle.loading.specs.Loading.{position_in_range, ray_in_range, ray_questions}
 use Rattle.bounds.specs.declared.BoundsAnswer.TheVariants as place
@@ -91,26 +92,26 @@ ray = across (pos 0)
 marks_are : (mark_of K ray 1024 330 ≡ crossing_mark) × (mark_of K ray 1024 400 ≡ inside_mark) × (mark_of K ray 1024 600 ≡ inside_mark)
     × (mark_of K ray 1024 0 ≡ empty_mark)
 unfolding
-    u16 u32 i16 is_point iso distance start count node_at zero_bytes record_at records_from nodes_from nodes ceil operator_of item_of items join_top step run
-    tree_value version kernel_of ray_square prepare distance_at foot_inside foot_distance low_q high_q qlo qhi weighted point_bounds join_bounds tree_bounds
-    state_of span_state mark_of
+    u16 u32 i16 is_point iso distance start count node_at zero_bytes record_at records_from nodes_from nodes ceil operator_of item_of items join_top
+    step run tree_value version kernel_of ray_square prepare distance_at foot_inside foot_distance low_q high_q qlo qhi weighted point_bounds
+    join_bounds tree_bounds state_of span_state mark_of
 marks_are = (refl, refl, refl, refl)
 
 -- the probe count of the ray, and how many ticks are looked at with a budget of 14 and of 15
 counts_are : (ray_probes K ray exponent ≡ 39)
     × (cast_looked_at 1024 (ray_walk K ray exponent 14) ≡ 330) × (cast_looked_at 1024 (ray_walk K ray exponent 15) ≡ 331)
 unfolding
-    u16 u32 i16 is_point iso distance start count node_at zero_bytes record_at records_from nodes_from nodes ceil operator_of item_of items join_top step run
-    tree_value version kernel_of ray_square prepare distance_at foot_inside foot_distance low_q high_q qlo qhi weighted point_bounds join_bounds tree_bounds
-    state_of span_state ray_state probe_count walk cast_looked_at
+    u16 u32 i16 is_point iso distance start count node_at zero_bytes record_at records_from nodes_from nodes ceil operator_of item_of items join_top
+    step run tree_value version kernel_of ray_square prepare distance_at foot_inside foot_distance low_q high_q qlo qhi weighted point_bounds
+    join_bounds tree_bounds state_of span_state ray_state probe_count walk cast_looked_at
 counts_are = (refl, refl, refl)
 
 -- the marching cast's probe count of it, and the full cast's mark of a tick
 marched_are : (march_probes K ray exponent ≡ 49) × (get_or (ray_marks K ray exponent) 600 not_looked_at ≡ inside_mark)
 unfolding
-    u16 u32 i16 is_point iso distance start count node_at zero_bytes record_at records_from nodes_from nodes ceil operator_of item_of items join_top step run
-    tree_value version kernel_of ray_square prepare distance_at foot_inside foot_distance low_q high_q qlo qhi weighted point_bounds join_bounds tree_bounds
-    state_of span_state ray_state span_marks next_tick next_length count_from
+    u16 u32 i16 is_point iso distance start count node_at zero_bytes record_at records_from nodes_from nodes ceil operator_of item_of items join_top
+    step run tree_value version kernel_of ray_square prepare distance_at foot_inside foot_distance low_q high_q qlo qhi weighted point_bounds
+    join_bounds tree_bounds state_of span_state ray_state span_marks next_tick next_length count_from
 marched_are = (refl, refl)
 
 -- the place 0/1, the ray's start, in tick 0
@@ -120,8 +121,8 @@ first = record { n = 0; m = 1; proper = lit≤ tt; after = lit≤ tt; before = l
 -- the iso-value, the exact field at that place, and what demand 3 allows: 4 × (2048/(256 × 512) + 1/16384), which is below 1
 start_is : (K.iso ≡ 1) × (field_at K ray 0 1 ≡ pos 0 over 68719476736) × (demanded K ray 1024 ≡ pos 538968064 over 8589934592)
 unfolding
-    u16 u32 i16 is_point iso distance start count node_at zero_bytes record_at records_from nodes_from nodes operator_of item_of items join_top step run
-    tree_value version kernel_of plus squared_distance point_at field_at demanded_of sum_over demanded
+    u16 u32 i16 is_point iso distance start count node_at zero_bytes record_at records_from nodes_from nodes operator_of item_of items join_top step
+    run tree_value version kernel_of plus squared_distance point_at field_at demanded_of sum_over demanded
 start_is = (refl, refl, refl)
 
 -- a mark of tick 0 that is sound is neither crossing nor inside
@@ -215,8 +216,8 @@ hit_is : first_hit file_k ray 2047 ≡ found.Hit 330 crossing_mark 15
 unfolding
     u16 u32 i16 has_bytes zeros first_no is_point kind_known coordinate in_range for_point for_operator held_after node_questions record_questions
     records_questions iso version distance marked trailer_questions start count node_at zero_bytes record_at records_from records nodes_from nodes
-    file_questions ceil operator_of item_of items join_top step run tree_value kernel_of ray_square prepare distance_at foot_inside foot_distance low_q high_q
-    qlo qhi weighted point_bounds join_bounds tree_bounds state_of span_state ray_state position_in_range ray_in_range ray_questions
+    file_questions ceil operator_of item_of items join_top step run tree_value kernel_of ray_square prepare distance_at foot_inside foot_distance
+    low_q high_q qlo qhi weighted point_bounds join_bounds tree_bounds state_of span_state ray_state position_in_range ray_in_range ray_questions
     hit hit_after first_hit
 hit_is = refl
 
@@ -279,17 +280,17 @@ module _ {budget : ℕ} where
 -- the bits of two ticks, a crossing one and an inside one
 bits_are : (bit_of K ray 1024 330 ≡ 0) × (bit_of K ray 1024 400 ≡ 1)
 unfolding
-    u16 u32 i16 is_point iso distance start count node_at zero_bytes record_at records_from nodes_from nodes ceil operator_of item_of items join_top step run
-    tree_value version kernel_of ray_square prepare distance_at foot_inside foot_distance low_q high_q qlo qhi weighted point_bounds join_bounds tree_bounds
-    state_of span_state mark_of solid_by middle_solid tick_bit bit_of
+    u16 u32 i16 is_point iso distance start count node_at zero_bytes record_at records_from nodes_from nodes ceil operator_of item_of items join_top
+    step run tree_value version kernel_of ray_square prepare distance_at foot_inside foot_distance low_q high_q qlo qhi weighted point_bounds
+    join_bounds tree_bounds state_of span_state mark_of solid_by middle_solid tick_bit bit_of
 bits_are = (refl, refl)
 
 -- the exact field at the middles of ticks 0 and 512, and the rounding: 4 × 1/16384
 middle_is : (field_at K ray 1 2048 ≡ pos 0 over 1208925819614629174706176) × (rounding K ≡ pos 4 over 16384)
     × (field_at K ray 1025 2048 ≡ pos 4835666385040738023899136 over 1208925819614629174706176)
 unfolding
-    u16 u32 i16 is_point iso distance start count node_at zero_bytes record_at records_from nodes_from nodes operator_of item_of items join_top step run
-    tree_value version kernel_of plus squared_distance point_at field_at rounding_of sum_over rounding
+    u16 u32 i16 is_point iso distance start count node_at zero_bytes record_at records_from nodes_from nodes operator_of item_of items join_top step
+    run tree_value version kernel_of plus squared_distance point_at field_at rounding_of sum_over rounding
 middle_is = (refl, refl, refl)
 
 module _ {probes : ℕ} {after : List ℕ} (d : ColumnDemands K ray exponent (column.Complete probes) after) where
@@ -415,12 +416,13 @@ another_version n i (ok, _, _, v) = omega (arith, v)
 -- the exact field at the origin is 4: a high below that does not enclose it; and bounds that do are not the tree's if they are looser
 pub not_enclosing : (low : ℤ) → PlaceSays file_k (at (pos 0) (pos 0)) (place.Bounded (record { low = low; high = pos 17179869183 })) → ⊥
 unfolding
-    u16 u32 i16 is_point iso distance start count node_at zero_bytes record_at records_from nodes_from nodes operator_of item_of items join_top step run
-    tree_value version kernel_of squared_distance point_at field_at PlaceSays
+    u16 u32 i16 is_point iso distance start count node_at zero_bytes record_at records_from nodes_from nodes operator_of item_of items join_top step
+    run tree_value version kernel_of squared_distance point_at field_at PlaceSays
 not_enclosing low b = b.encloses.below.cross.le
 
 pub loose : PlaceSays file_k (at (pos 0) (pos 0)) (place.Bounded (record { low = pos 0; high = pos 17179869184 })) → ⊥
 unfolding
-    u16 u32 i16 is_point iso distance start count node_at zero_bytes record_at records_from nodes_from nodes ceil operator_of item_of items join_top step run
-    tree_value version kernel_of ray_square prepare distance_at foot_inside foot_distance low_q high_q qlo qhi weighted point_bounds tree_bounds PlaceSays
+    u16 u32 i16 is_point iso distance start count node_at zero_bytes record_at records_from nodes_from nodes ceil operator_of item_of items join_top
+    step run tree_value version kernel_of ray_square prepare distance_at foot_inside foot_distance low_q high_q qlo qhi weighted point_bounds
+    tree_bounds PlaceSays
 loose b = omega (arith, ap (λ (c : Bounds). nat_abs c.low) b.tree)

@@ -114,8 +114,8 @@ rows =
 
 pub asked : map (λ r. first_no (writer_questions r.numbers r.iso r.version r.room r.place)) rows ≡ map (λ r. r.answer) rows
 unfolding
-    rows points first_no is_point kind_known coordinate in_range for_point for_operator held_after node_questions record_questions records_questions node_in
-    nodes_in given others_zero record_of size counted has_room writer_questions
+    rows points first_no is_point kind_known coordinate in_range for_point for_operator held_after node_questions record_questions records_questions
+    node_in nodes_in given others_zero record_of size counted has_room writer_questions
 asked = refl
 
 -- ---- the bytes
@@ -166,9 +166,9 @@ iso_of (part.Accepted s) = s.iso
 
 pub other_iso : WriteSays point_a 1 1 lent 1 (End 25) (left 0x77 1 2 3 0x77) → ⊥
 unfolding
-    WriteSays iso_of u16 u32 i16 has_bytes zeros first_no is_point kind_known coordinate in_range for_point for_operator held_after node_at zero_bytes record_at
-    node_questions record_questions iso version distance marked trailer_questions start count records_from records records_questions file_questions answer_of
-    check_file
+    WriteSays iso_of u16 u32 i16 has_bytes zeros first_no is_point kind_known coordinate in_range for_point for_operator held_after node_at
+    zero_bytes record_at node_questions record_questions iso version distance marked trailer_questions start count records_from records
+    records_questions file_questions answer_of check_file
 other_iso says = omega (arith, ap iso_of says.checked)
 
 version_of : Checked → ℕ
@@ -178,9 +178,9 @@ version_of (part.Accepted s) = s.version
 -- version 1 written where 2 was given
 pub other_version : WriteSays point_a 1 2 lent 1 (End 25) (left 0x77 1 2 1 0x77) → ⊥
 unfolding
-    WriteSays version_of u16 u32 i16 has_bytes zeros first_no is_point kind_known coordinate in_range for_point for_operator held_after node_at zero_bytes
-    record_at node_questions record_questions iso version distance marked trailer_questions start count records_from records records_questions file_questions
-    answer_of check_file
+    WriteSays version_of u16 u32 i16 has_bytes zeros first_no is_point kind_known coordinate in_range for_point for_operator held_after node_at
+    zero_bytes record_at node_questions record_questions iso version distance marked trailer_questions start count records_from records
+    records_questions file_questions answer_of check_file
 other_version says = omega (arith, ap version_of says.checked)
 
 pub cleared_before : WriteSays point_a 1 1 lent 1 (End 25) (left 0 1 2 1 0x77) → ⊥
@@ -213,9 +213,10 @@ octets (b ∷ later) e (suc k) h = octets later (both_true (ltb b 256) (all_belo
 
 read_K : ReadFrom file_k point_k 1 1 24
 unfolding
-    all_below node_in nodes_in given bits16 u16_bytes u32_bytes i16_bytes record_bytes records_bytes size trailer_bytes part_bytes u16 u32 i16 has_bytes zeros
-    first_no is_point kind_known coordinate in_range for_point for_operator held_after node_at zero_bytes record_at node_questions record_questions iso version
-    distance marked trailer_questions start count records_from records nodes_from nodes records_questions file_questions answer_of check_file numbers
+    all_below node_in nodes_in given bits16 u16_bytes u32_bytes i16_bytes record_bytes records_bytes size trailer_bytes part_bytes u16 u32 i16
+    has_bytes zeros first_no is_point kind_known coordinate in_range for_point for_operator held_after node_at zero_bytes record_at node_questions
+    record_questions iso version distance marked trailer_questions start count records_from records nodes_from nodes records_questions
+    file_questions answer_of check_file numbers
 read_K = record {
   octets = octets file_k refl;
   accepted = refl;

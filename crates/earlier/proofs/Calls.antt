@@ -70,7 +70,8 @@ one_end ray e =
 by_verdict : (file : List ℕ) (c : Call) (lent : List ℕ) → let v = first_no (ray_questions file (ray_of c) ++ room_questions c (length lent)) in
     (answer_to file c (length lent) ≡ answer_by v file c) × (bytes_left file c lent ≡ bytes_by v file c lent)
 unfolding
-    answer_to answer_by bytes_left bytes_by ray_of room_questions buffer_questions full_cast marks_left first_hit column_answer bits_left marching_cast marched_left
+    answer_to answer_by bytes_left bytes_by ray_of room_questions buffer_questions full_cast marks_left first_hit column_answer bits_left
+    marching_cast marched_left
 by_verdict file (call.FullCast ray budget) lent = (refl, refl)
 by_verdict file (call.FirstHit ray budget) lent = (rw (append-nil (ray_questions file ray)), refl)
 by_verdict file (call.Column ray) lent = (refl, refl)

@@ -92,7 +92,8 @@ sextic_lawful = record {
       (le_trans (mul-le-mul_right fixed_one (div-mul-le_self (q * q * q) 65536)) (le_of_eq (ap (λ (x : ℕ). x * fixed_one) (sym (pow_three q)))));
   up = λ q.
       le_trans (le_of_eq (ap (λ (x : ℕ). x * fixed_one) (pow_three q)))
-      (le_trans (mul-le-mul_right fixed_one (le-ceil (q * q * q) 65536 (omega arith))) (le_of_eq (mul_assoc (ceil (q * q * q) 65536) 65536 fixed_one)));
+      (le_trans (mul-le-mul_right fixed_one (le-ceil (q * q * q) 65536 (omega arith)))
+      (le_of_eq (mul_assoc (ceil (q * q * q) 65536) 65536 fixed_one)));
   small = λ h. let k = mul-le-mul (mul-le-mul h h) h in (floor_rises k, ceil_rises k);
   none = (refl, refl);
   low_rises = λ h. floor_rises (mul-le-mul (mul-le-mul h h) h);

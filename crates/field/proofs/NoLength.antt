@@ -1,7 +1,7 @@
 -- A ray whose ends coincide (document 02, P8): "every tick is the one place". Its a and its m are 0, so at each of its places the squared distance
 -- from a centre is the place's own (`one_place`), and no foot is strictly inside a span of it. So whatever the span, a point's two q are
--- 65536 × (1 − d²/r²) at the place, rounded down and up (`place_q`), and the tree's bounds are the place's own (`place_bounds_lem`). With S equal to 0
--- what demand 3 allows is for rounding alone (`demanded_place`), and demand 3 holds with that (`marks_place`).
+-- 65536 × (1 − d²/r²) at the place, rounded down and up (`place_q`), and the tree's bounds are the place's own (`place_bounds_lem`). With S equal to
+-- 0 what demand 3 allows is for rounding alone (`demanded_place`), and demand 3 holds with that (`marks_place`).
 use mathlib.Core.Path.{◌≡◌, refl, sym, ap, ap₂, ◌∙◌}
 use mathlib.Core.Bool.{Bool, true, false}
 use Prim.Native.Nat.{ℕ, ◌*◌, ◌-◌, ◌≤◌, ◌<◌, min, max}

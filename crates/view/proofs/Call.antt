@@ -93,7 +93,8 @@ module _ (file : List ℕ) (ray : ViewRay) where
     unfolding viewer_ticks hit_after check_file next
     ticks_refused w e = rw (view_verdict, w, answer_refused (first_no (file_questions file)) file e)
 
-    pub ticks_15 : ray_whole ray ≡ false → {part : Summary} → check_file file ≡ Accepted part → viewer_ticks exponent file ray budget ≡ found.Refused 15
+    pub ticks_15 : ray_whole ray ≡ false → {part : Summary} → check_file file ≡ Accepted part
+        → viewer_ticks exponent file ray budget ≡ found.Refused 15
     unfolding viewer_ticks hit_after check_file next
     ticks_15 w e = rw (view_verdict, w, answer_accepted (first_no (file_questions file)) file e)
 

@@ -1,5 +1,6 @@
 -- Floats compared by their exact values (`le_values`, `lt_values`, `eq_values`): x is a/c and y is b/d, so x ≤ y exactly where a·d ≤ b·c.
-use Rattle.std.proofs.Common.{◌≡◌, ℕ, zero, suc, ◌+◌, ◌*◌, ◌<◌, Bool, true, false, not, eqb, ℤ, pos, ◌*ℤ◌, ◌≤ℤ◌, sym, refl, ap, ◌∙◌, subst, mul_comm, mul-pos, zero-add, arith, lt-ltb}
+use Rattle.std.proofs.Common.{◌≡◌, ℕ, zero, suc, ◌+◌, ◌*◌, ◌<◌, Bool, true, false, not, eqb, ℤ, pos, ◌*ℤ◌, ◌≤ℤ◌, sym, refl, ap, ◌∙◌, subst}
+use Rattle.std.proofs.Common.{mul_comm, mul-pos, zero-add, arith, lt-ltb}
 use mathlib.Core.Bool.{and-true, and-false}
 use lib.Dec.{leb-suc-zero, leb-suc-suc, eqb-zero-suc, eqb-suc-zero, eqb-suc-suc}
 use lib.Signed.{lt_z, le_z}

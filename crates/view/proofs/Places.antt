@@ -1,6 +1,8 @@
 -- A place as a float: the quotient of two whole floats is the fraction rounded once; over a power of two it is the fraction exactly, and the tick
 -- is got back from it.
-use Rattle.std.proofs.Common.{◌≡◌, ℕ, zero, suc, ◌*◌, ◌/◌, ◌^◌, ◌<◌, ◌≤◌, Bool, true, false, cond, eqb, pos, negsuc, nat_abs, sym, refl, ap, ◌∙◌, subst, true≢false, le_trans, le_of_eq, lt_of_lt_of_le, le-add_right, lt_of_le_of_lt, lt_irrefl, mul_assoc, mul_comm, mul-le-mul_left, mul-pos, mul-one, mul-div_cancel, lit<, lit≤, pow_pos, pow_mono, ne_eqb}
+use Rattle.std.proofs.Common.{◌≡◌, ℕ, zero, suc, ◌*◌, ◌/◌, ◌^◌, ◌<◌, ◌≤◌, Bool, true, false, cond, eqb, pos, negsuc, nat_abs, sym, refl, ap, ◌∙◌}
+use Rattle.std.proofs.Common.{subst, true≢false, le_trans, le_of_eq, lt_of_lt_of_le, le-add_right, lt_of_le_of_lt, lt_irrefl, mul_assoc, mul_comm}
+use Rattle.std.proofs.Common.{mul-le-mul_left, mul-pos, mul-one, mul-div_cancel, lit<, lit≤, pow_pos, pow_mono, ne_eqb}
 use lib.Ieee.{Float, nan, inf, fin, binary32, up, down, round, div, of_int}
 use lib.Ieee.Fits.{down_pos}
 use lib.Ieee.Exact.{HasValue}

@@ -1,6 +1,8 @@
 -- Exact rounding: a fraction over a power of two is rounded to itself, where its digits are no more than the format keeps, the power does not reach
 -- below the format and nothing overflows.
-use Rattle.std.proofs.Common.{◌≡◌, ℕ, suc, ◌+◌, ◌-◌, ◌*◌, ◌^◌, ◌<◌, ◌≤◌, Bool, ℤ, pos, negsuc, sym, ap, ◌∙◌, subst, le_of_suc-le-suc, zero-lt-suc, mul_assoc, mul_comm, lt_of_mul-lt-mul_right, mul-lt-mul_of_pos_right, lt_of_not-le, mul-one, sub-add_cancel, mul_right_comm, not-le_of_lt, pow_pos, pow-add}
+use Rattle.std.proofs.Common.{◌≡◌, ℕ, suc, ◌+◌, ◌-◌, ◌*◌, ◌^◌, ◌<◌, ◌≤◌, Bool, ℤ, pos, negsuc, sym, ap, ◌∙◌, subst, le_of_suc-le-suc, zero-lt-suc}
+use Rattle.std.proofs.Common.{mul_assoc, mul_comm, lt_of_mul-lt-mul_right, mul-lt-mul_of_pos_right, lt_of_not-le, mul-one, sub-add_cancel}
+use Rattle.std.proofs.Common.{mul_right_comm, not-le_of_lt, pow_pos, pow-add}
 use lib.Pow.{pow-lt}
 use lib.Ieee.{Format, prec, emax, low, up, down, round}
 use lib.Ieee.Exact.{HasValue, round_exact}

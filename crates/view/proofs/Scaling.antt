@@ -1,5 +1,7 @@
 -- A float times 64 is exact, or it is an infinity and out of range (`scaled`).
-use Rattle.std.proofs.Common.{◌≡◌, ℕ, zero, suc, ◌+◌, ◌*◌, ◌%◌, ◌^◌, ◌<◌, ◌≤◌, Bool, true, false, cond, ◌&&◌, T, eqb, ltb, leb, ◌⊎◌, ℤ, pos, negsuc, sym, refl, ap, ◌∙◌, subst, inl, inr, le_trans, le_of_eq, zero-lt-suc, one-mul, mul-one, eqb→eq, ltb→lt, leb→le, pow_pos}
+use Rattle.std.proofs.Common.{◌≡◌, ℕ, zero, suc, ◌+◌, ◌*◌, ◌%◌, ◌^◌, ◌<◌, ◌≤◌, Bool, true, false, cond, ◌&&◌, T, eqb, ltb, leb, ◌⊎◌, ℤ, pos, negsuc}
+use Rattle.std.proofs.Common.{sym, refl, ap, ◌∙◌, subst, inl, inr, le_trans, le_of_eq, zero-lt-suc, one-mul, mul-one, eqb→eq, ltb→lt, leb→le}
+use Rattle.std.proofs.Common.{pow_pos}
 use lib.Ieee.{Float, nan, inf, fin, Format, binary32, prec, emax, low, up, down, odd, units, round, mul, neg, eq, lt, le, fits}
 use lib.Ieee.Fits.{and_l, and_r, round_is, down_pos}
 use lib.Ieee.Exact.{HasValue}

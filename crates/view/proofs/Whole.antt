@@ -1,6 +1,9 @@
--- What `steps_of` answers, and how the code finds it: the tests of the product's range (`range_test`), its truncation (`truncated`) and the comparison
--- with the truncation cast back (`whole_test`). `exactly`: it answers n exactly where 64 times the float's exact value is n.
-use Rattle.std.proofs.Common.{◌≡◌, ℕ, zero, suc, ◌-◌, ◌*◌, ◌/◌, ◌%◌, ◌^◌, ◌<◌, ◌≤◌, min, Bool, true, false, cond, ◌&&◌, T, eqb, leb, ◌⊎◌, ℤ, pos, negsuc, ◌*ℤ◌, neg_ℤ, nat_abs, ◌≤ℤ◌, sym, refl, ap, ◌∙◌, inl, inr, le_trans, le_of_eq, lt_of_lt_of_le, le_of_suc-le-suc, lt_of_le_of_lt, le_of_lt, mul-le-mul_right, div-lt_iff_lt-mul, mul-lt-mul_of_pos_right, not-le_of_lt, mul-div_cancel, arith, lit<, lit≤, le→leb, lt→ltb, eq-eqb, eqb-true, le-leb, leb-false, leb-true}
+-- What `steps_of` answers, and how the code finds it: the tests of the product's range (`range_test`), its truncation (`truncated`) and the
+-- comparison with the truncation cast back (`whole_test`). `exactly`: it answers n exactly where 64 times the float's exact value is n.
+use Rattle.std.proofs.Common.{◌≡◌, ℕ, zero, suc, ◌-◌, ◌*◌, ◌/◌, ◌%◌, ◌^◌, ◌<◌, ◌≤◌, min, Bool, true, false, cond, ◌&&◌, T, eqb, leb, ◌⊎◌, ℤ, pos}
+use Rattle.std.proofs.Common.{negsuc, ◌*ℤ◌, neg_ℤ, nat_abs, ◌≤ℤ◌, sym, refl, ap, ◌∙◌, inl, inr, le_trans, le_of_eq, lt_of_lt_of_le}
+use Rattle.std.proofs.Common.{le_of_suc-le-suc, lt_of_le_of_lt, le_of_lt, mul-le-mul_right, div-lt_iff_lt-mul, mul-lt-mul_of_pos_right}
+use Rattle.std.proofs.Common.{not-le_of_lt, mul-div_cancel, arith, lit<, lit≤, le→leb, lt→ltb, eq-eqb, eqb-true, le-leb, leb-false, leb-true}
 use mathlib.Core.Bool.{false≢true}
 use native.Mathlib.Nat.{mul-mod_left}
 use lib.Dec.{eqb-zero-suc, eqb-suc-zero, eqb-suc-suc}

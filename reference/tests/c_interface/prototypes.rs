@@ -140,6 +140,8 @@ pub fn rattle_entries(source: &str) -> BTreeMap<String, Entry> {
         .lines()
         .filter(|line| !line.trim_start().starts_with("//"));
     let code = code.collect::<Vec<_>>().join("\n");
-    let exported = code.split("#[no_mangle]\npub extern \"C\" fn ").skip(1);
+    let exported = code
+        .split("#[unsafe(no_mangle)]\npub extern \"C\" fn ")
+        .skip(1);
     exported.map(rattle_entry).collect()
 }
