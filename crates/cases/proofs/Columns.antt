@@ -1,6 +1,7 @@
 -- Columns (document 02, P6) as rows of a table that one theorem covers (`columns`): "For file K and the printed ray the solid ticks are then 331 to
 -- 692" (`solid_ticks`); a middle at which the bounds add up to exactly 2 × iso × 2³²; and a strut thinner than a tick, whose bits are 0 and whose
 -- ticks are crossing (`strut_marked`).
+use Rattle.std.specs.Prelude.{Ok, Err}
 use mathlib.Core.Path.{◌≡◌, refl}
 use mathlib.Core.List.{List, [], ◌∷◌, ◌++◌, map}
 use Prim.Native.Nat.{ℕ, zero, suc, ◌^◌}
@@ -12,9 +13,10 @@ use Rattle.record.specs.Bytes.{u16, u32, i16, has_bytes, zeros}
 use Rattle.record.specs.Questions.{first_no}
 use Rattle.record.specs.Nodes.{is_point, kind_known, coordinate, in_range, for_point, for_operator, held_after}
 use Rattle.record.specs.Record.{node_at, zero_bytes, record_at, node_questions, record_questions}
+use Rattle.record.specs.declared.Refusal.TheVariants as no
 use Rattle.part.specs.File.{iso, version, distance, marked, trailer_questions, start, count, records_from, records}
 use Rattle.part.specs.File.{records_questions, nodes_from, nodes, file_questions}
-use Rattle.field.specs.declared.Ray.{Ray}
+use Rattle.field.specs.Vectors.{Ray}
 use Rattle.field.specs.Tree.{operator_of, item_of, items, join_top, step, run, tree_value}
 use Rattle.field.specs.Solid.{kernel_of, solid_of}
 use Rattle.field.specs.Bounds.{ray_square, prepare, distance_at, foot_inside, foot_distance, low_q, high_q, qlo, qhi}
@@ -22,10 +24,8 @@ use Rattle.field.specs.Bounds.{weighted, point_bounds, join_bounds, tree_bounds,
 use Rattle.field.specs.Marks.{span_state, mark_of}
 use Rattle.loading.specs.Loading.{position_in_range, ray_in_range, ray_questions}
 use Rattle.halving.specs.Halving.{probe_count, span_marks}
-use Rattle.cast.specs.declared.ColumnAnswer.{ColumnAnswer}
-use Rattle.cast.specs.declared.ColumnAnswer.TheVariants.{Refused, Complete}
 use Rattle.cast.specs.Ticks.{exponent, ray_state}
-use Rattle.cast.specs.Column.{middle_solid, tick_bit, bit_of, from_bits, packed}
+use Rattle.cast.specs.Column.{middle_solid, tick_bit, bit_of, from_bits, packed, ColumnAnswer}
 use Rattle.cast.specs.Questions.{buffer_questions}
 use Rattle.cast.specs.Calls.{ray_marks, column_after, column_answer, bits_after, bits_left}
 use Rattle.cases.proofs.Rays.{one_point, file_k, at, across}
@@ -56,20 +56,20 @@ wide = record { start = at (neg_ℤ (pos 2047)) (pos 0); end = at (pos 2047) (po
 unfoldable pub rows : List (Request × (ColumnAnswer × List ℕ))
 rows =
     -- bits from tick 331, bit 3 of byte 41, to tick 692, bit 4 of byte 86; bytes past 128 are kept
-    (request file_k (across (pos 0)) bits, (Complete 39, replicate 41 0 ++ 0xf8 ∷ replicate 44 0xff ++ 0x1f ∷ replicate 41 0))
-    ∷ (request file_k (across (pos 0)) (bits ++ 7 ∷ []), (Complete 39, replicate 41 0 ++ 0xf8 ∷ replicate 44 0xff ++ 0x1f ∷ replicate 41 0 ++ 7 ∷ []))
+    (request file_k (across (pos 0)) bits, (Ok 39, replicate 41 0 ++ 0xf8 ∷ replicate 44 0xff ++ 0x1f ∷ replicate 41 0))
+    ∷ (request file_k (across (pos 0)) (bits ++ 7 ∷ []), (Ok 39, replicate 41 0 ++ 0xf8 ∷ replicate 44 0xff ++ 0x1f ∷ replicate 41 0 ++ 7 ∷ []))
     -- at y = 362 both crossing ticks, 509 and 514, are solid
-    ∷ (request file_k (across (pos 362)) bits, (Complete 39, replicate 63 0 ++ 0xe0 ∷ 0x07 ∷ replicate 63 0))
-    ∷ (request file_k (across (pos 512)) bits, (Complete 1, replicate 128 0))
+    ∷ (request file_k (across (pos 362)) bits, (Ok 39, replicate 63 0 ++ 0xe0 ∷ 0x07 ∷ replicate 63 0))
+    ∷ (request file_k (across (pos 512)) bits, (Ok 1, replicate 128 0))
     -- ticks 383 and 639 have their middles at (−256, 256, 0) and (256, 256, 0), where u is 1/2 and both bounds are iso × 2³²: solid
     ∷ (
       request file_k (record { start = at (neg_ℤ (pos 1023)) (pos 256); end = at (pos 1025) (pos 256) }) bits,
-      (Complete 39, replicate 47 0 ++ 0x80 ∷ replicate 32 0xff ++ replicate 48 0),
+      (Ok 39, replicate 47 0 ++ 0x80 ∷ replicate 32 0xff ++ replicate 48 0),
     )
-    ∷ (request strut wide bits, (Complete 39, replicate 128 0))
+    ∷ (request strut wide bits, (Ok 39, replicate 128 0))
     -- refused: "Coordinate 2,048: 12", a buffer of 127
-    ∷ (request file_k (across (pos 2048)) bits, (Refused 12, bits))
-    ∷ (request file_k (across (pos 0)) (replicate 127 0xa5), (Refused 14, replicate 127 0xa5))
+    ∷ (request file_k (across (pos 2048)) bits, (Err no.Coordinates, bits))
+    ∷ (request file_k (across (pos 0)) (replicate 127 0xa5), (Err no.Buffer, replicate 127 0xa5))
     ∷ []
 
 pub columns : map (λ r. answer r.0) rows ≡ map (λ r. r.1) rows

@@ -1,5 +1,6 @@
 -- Worked cases of degree 6, as rows of a table that one theorem covers (document 02, P9): calls on files of version 2, sizes, the exact field at a
 -- place, and what demand 3 allows.
+use Rattle.std.specs.Prelude.{Ok, Err}
 use mathlib.Core.Path.{◌≡◌, refl}
 use mathlib.Core.List.{List, [], ◌∷◌, ◌++◌, map}
 use Prim.Native.Nat.{ℕ}
@@ -14,7 +15,6 @@ use Rattle.record.specs.Nodes.{is_point, kind_known, coordinate, in_range, for_p
 use Rattle.record.specs.Record.{node_at, zero_bytes, record_at, node_questions, record_questions}
 use Rattle.part.specs.File.{iso, version, distance, marked, trailer_questions, start, count, records_from, records}
 use Rattle.part.specs.File.{nodes_from, nodes, records_questions, file_questions, answer_of, check_file}
-use Rattle.part.specs.declared.Checked.TheVariants as part
 use Rattle.field.specs.Ray.{squared_distance, constant_ray}
 use Rattle.field.specs.Kernel.{sextic, point_at}
 use Rattle.field.specs.Tree.{operator_of, item_of, items, join_top, step, run, tree_value}
@@ -26,8 +26,8 @@ use Rattle.field.specs.Bounds.{weighted, point_bounds, join_bounds, tree_bounds,
 use Rattle.field.specs.Marks.{span_state}
 use Rattle.loading.specs.Loading.{position_in_range, ray_in_range, ray_questions}
 use Rattle.bounds.specs.Place.{place_questions, place_answer, place_bounds}
-use Rattle.halving.specs.declared.CastAnswer.TheVariants as cast
-use Rattle.halving.specs.declared.HitAnswer.TheVariants as first
+use Rattle.halving.specs.declared.Cast.TheVariants as cast
+use Rattle.halving.specs.declared.FirstHit.TheVariants as first
 use Rattle.halving.specs.Halving.{span_marks, walk, cast_looked_at, handed}
 use Rattle.halving.specs.FirstHit.{hit}
 use Rattle.cast.specs.Ticks.{ray_state}
@@ -45,7 +45,7 @@ marks2 = replicate 356 0 ++ replicate 1 1 ++ replicate 310 2 ++ replicate 1 1 ++
 
 unfoldable pub rows : List (Call × Answer)
 rows =
-    (check file_k2, checked (part.Accepted (record { nodes = 1; iso = 1; version = 2 })))
+    (check file_k2, checked (Ok (record { nodes = 1; iso = 1; version = 2 })))
     -- the centre, where u is 1; the radius, where it is 0; and (362, 0, 0), where q is 32,775 and q³/65536 is 537,215,049.5…
     ∷ (bounds file_k2 (at (pos 0) (pos 0)), low_high (pos 17179869184) (pos 17179869184))
     ∷ (bounds file_k2 (at (pos 512) (pos 0)), low_high (pos 0) (pos 0))
@@ -54,10 +54,10 @@ rows =
     ∷ (bounds (one_point_of 2 3 0 1 0) (at (pos 1) (pos 0)), low_high (pos 3016458285) (pos 3016613632))
     ∷ (bounds (one_point_of 2 3 0 0xff 0xff) (at (pos 1) (pos 0)), low_high (neg_ℤ (pos 3016613632)) (neg_ℤ (pos 3016458285)))
     -- the ray across, which hits version 1's file at tick 330
-    ∷ (hits file_k2 (across (pos 0)) 2047, found (first.Hit 356 1 15))
-    ∷ (hits file_k2 (across (pos 0)) 14, found (first.Spent 356 14))
-    ∷ (full file_k2 (across (pos 0)) 2047 (replicate 1024 3), marks (cast.Complete 39) marks2)
-    ∷ (full file_k2 (across (pos 512)) 2047 (replicate 1024 3), marks (cast.Complete 1) (replicate 1024 0))
+    ∷ (hits file_k2 (across (pos 0)) 2047, found (Ok (first.Hit 356 1 15)))
+    ∷ (hits file_k2 (across (pos 0)) 14, found (Ok (first.Spent 356 14)))
+    ∷ (full file_k2 (across (pos 0)) 2047 (replicate 1024 3), marks (Ok (cast.Complete 39)) marks2)
+    ∷ (full file_k2 (across (pos 512)) 2047 (replicate 1024 3), marks (Ok (cast.Complete 1)) (replicate 1024 0))
     ∷ []
 
 pub sixth : map (λ r. answer r.0) rows ≡ map (λ r. r.1) rows

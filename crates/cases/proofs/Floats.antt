@@ -1,4 +1,5 @@
 -- Worked floats (`taken`) and viewer's rays (`seen`): tables, each covered by one theorem.
+use Rattle.std.specs.Prelude.{Some, None}
 use mathlib.Core.Path.{◌≡◌, refl}
 use mathlib.Core.List.{List, [], ◌∷◌, map}
 use Prim.Native.Nat.{ℕ}
@@ -11,6 +12,7 @@ use Rattle.record.specs.Questions.{first_no}
 use Rattle.record.specs.Nodes.{is_point, kind_known, coordinate, in_range, for_point, for_operator, held_after}
 use Rattle.part.specs.File.{records_questions}
 use Rattle.record.specs.Record.{node_at, zero_bytes, record_at, node_questions, record_questions}
+use Rattle.record.specs.declared.Refusal.TheVariants as no
 use Rattle.part.specs.File.{iso, version, distance, marked, trailer_questions, start, count, records_from, records}
 use Rattle.part.specs.File.{nodes_from, nodes, file_questions}
 use Rattle.field.specs.Tree.{operator_of, item_of, items, join_top, step, run, tree_value}
@@ -21,13 +23,11 @@ use Rattle.field.specs.Marks.{span_state}
 use Rattle.halving.specs.FirstHit.{hit}
 use Rattle.cast.specs.Ticks.{ray_state}
 use Rattle.cast.specs.Calls.{hit_after}
-use Rattle.view.specs.declared.Steps.{Steps}
-use Rattle.view.specs.declared.Steps.TheVariants.{Whole, Refused}
-use Rattle.view.specs.declared.ViewRay.{ViewRay}
+use Rattle.view.specs.Ray.{ViewRay}
 use Rattle.view.specs.declared.ViewAnswer.{ViewAnswer}
 use Rattle.view.specs.declared.ViewAnswer.TheVariants as view
 use Rattle.view.specs.Floats.{place_of}
-use Rattle.view.specs.Steps.{steps_of, whole_steps}
+use Rattle.view.specs.Steps.{steps_of, whole_steps, Steps}
 use Rattle.view.specs.Ray.{whole, coordinate_of, position_of, steps_ray}
 use Rattle.view.specs.Call.{float_questions, view_questions, view_of, viewer_ticks, viewer_first_hit}
 use Rattle.cases.proofs.Rays.{file_k}
@@ -38,26 +38,26 @@ use Rattle.cases.proofs.Rays.{file_k}
 unfoldable pub floats : List (ℕ × Steps)
 floats =
     -- 1.5 mm, and 0 and minus zero
-    (0x3fc0_0000, Whole (pos 96))
-    ∷ (0x0000_0000, Whole (pos 0))
-    ∷ (0x8000_0000, Whole (pos 0))
+    (0x3fc0_0000, Some (pos 96))
+    ∷ (0x0000_0000, Some (pos 0))
+    ∷ (0x8000_0000, Some (pos 0))
     -- 1/64 and −1/64, and the floats next to 1/64
-    ∷ (0x3c80_0000, Whole (pos 1))
-    ∷ (0xbc80_0000, Whole (neg_ℤ (pos 1)))
-    ∷ (0x3c80_0001, Refused)
-    ∷ (0x3c7f_ffff, Refused)
+    ∷ (0x3c80_0000, Some (pos 1))
+    ∷ (0xbc80_0000, Some (neg_ℤ (pos 1)))
+    ∷ (0x3c80_0001, None)
+    ∷ (0x3c7f_ffff, None)
     -- 2,047/64 and −2,047/64, the float after 2,047/64, and 2,048/64 and −2,048/64
-    ∷ (0x41ff_e000, Whole (pos 2047))
-    ∷ (0xc1ff_e000, Whole (neg_ℤ (pos 2047)))
-    ∷ (0x41ff_e001, Refused)
-    ∷ (0x4200_0000, Refused)
-    ∷ (0xc200_0000, Refused)
+    ∷ (0x41ff_e000, Some (pos 2047))
+    ∷ (0xc1ff_e000, Some (neg_ℤ (pos 2047)))
+    ∷ (0x41ff_e001, None)
+    ∷ (0x4200_0000, None)
+    ∷ (0xc200_0000, None)
     -- the smallest and the largest float above 0, the infinities and a NaN
-    ∷ (0x0000_0001, Refused)
-    ∷ (0x7f7f_ffff, Refused)
-    ∷ (0x7f80_0000, Refused)
-    ∷ (0xff80_0000, Refused)
-    ∷ (0x7fc0_0000, Refused)
+    ∷ (0x0000_0001, None)
+    ∷ (0x7f7f_ffff, None)
+    ∷ (0x7f80_0000, None)
+    ∷ (0xff80_0000, None)
+    ∷ (0x7fc0_0000, None)
     ∷ []
 
 pub taken : map (λ (r : ℕ × Steps). steps_of (of_bits binary32 r.0)) floats ≡ map (λ (r : ℕ × Steps). r.1) floats
@@ -93,9 +93,9 @@ rays =
     -- A = B, with 0 and minus zero (document 02, P8): 64 steps from the centre; and a float that is not whole steps at both ends
     ∷ (along 0x3f80_0000 0x3f80_0000 0, 1, view.Hit (float 0) 2 1)
     ∷ (along 0x3f80_0000 0x3f80_0000 0, 0, view.Spent (float 0) 0)
-    ∷ (along 0x3c7f_ffff 0x3c7f_ffff 0, 2047, view.Refused 15)
+    ∷ (along 0x3c7f_ffff 0x3c7f_ffff 0, 2047, view.Refused no.Millimetres)
     -- 2,048/64 mm
-    ∷ (along 0 0x4200_0000 0, 2047, view.Refused 15)
+    ∷ (along 0 0x4200_0000 0, 2047, view.Refused no.Millimetres)
     ∷ []
 
 -- a row of the second table

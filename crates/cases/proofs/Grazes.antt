@@ -7,7 +7,7 @@ use Prim.Native.Nat.{ℕ}
 use lib.IntN.{ℤ, pos, neg_ℤ}
 use Rattle.exact.specs.Rounding.{ceil}
 use Rattle.record.specs.declared.Node.{Node}
-use Rattle.field.specs.declared.Ray.{Ray}
+use Rattle.field.specs.Vectors.{Ray}
 use Rattle.field.specs.declared.Span.{Span}
 use Rattle.field.specs.Ray.{tick, ticks, at_start}
 use Rattle.field.specs.Bounds.{ray_square, prepare, distance_at, foot_inside, foot_distance, high_q, qhi}

@@ -1,5 +1,6 @@
 -- Marching casts (document 02, P5) as rows of tables that one theorem each covers: searches of given states (`searched`), and calls on file K
 -- (`marched`). And that the budget for certain completion is met (`met`).
+use Rattle.std.specs.Prelude.{Ok, Err}
 use mathlib.Core.Path.{◌≡◌, refl}
 use mathlib.Core.List.{List, [], ◌∷◌, ◌++◌, map}
 use mathlib.Core.Bool.{cond}
@@ -13,17 +14,19 @@ use Rattle.record.specs.Bytes.{u16, u32, i16, has_bytes, zeros}
 use Rattle.record.specs.Questions.{first_no}
 use Rattle.record.specs.Nodes.{is_point, kind_known, coordinate, in_range, for_point, for_operator, held_after}
 use Rattle.record.specs.Record.{node_at, zero_bytes, record_at, node_questions, record_questions}
+use Rattle.record.specs.declared.Refusal.TheVariants as no
 use Rattle.part.specs.File.{iso, version, distance, marked, trailer_questions, start, count, records_from, records}
 use Rattle.part.specs.File.{records_questions, nodes_from, nodes, file_questions}
-use Rattle.field.specs.declared.Ray.{Ray}
+use Rattle.field.specs.Vectors.{Ray}
 use Rattle.field.specs.Tree.{operator_of, item_of, items, join_top, step, run, tree_value}
 use Rattle.field.specs.Solid.{kernel_of, solid_of}
 use Rattle.field.specs.Bounds.{ray_square, prepare, distance_at, foot_inside, foot_distance, low_q, high_q, qlo, qhi}
 use Rattle.field.specs.Bounds.{weighted, point_bounds, join_bounds, tree_bounds, state_of, empty_mark, crossing_mark, inside_mark, not_looked_at}
 use Rattle.field.specs.Marks.{span_state}
 use Rattle.loading.specs.Loading.{position_in_range, ray_in_range, ray_questions}
-use Rattle.halving.specs.declared.CastAnswer.{CastAnswer}
-use Rattle.halving.specs.declared.CastAnswer.TheVariants.{Refused, Complete, Spent}
+use Rattle.halving.specs.declared.Cast.{Cast}
+use Rattle.halving.specs.Answers.{CastAnswer}
+use Rattle.halving.specs.declared.Cast.TheVariants.{Complete, Spent}
 use Rattle.halving.specs.Halving.{cast_looked_at, handed}
 use Rattle.cast.specs.Ticks.{exponent, ray_state}
 use Rattle.cast.specs.Questions.{buffer_questions}
@@ -47,7 +50,7 @@ abbrev thin : ℕ → ℕ → ℕ
 thin = wall 82 82
 
 -- the state, the ticks, the budget, and what is answered
-unfoldable pub searches : List ((((ℕ → ℕ → ℕ) × ℕ) × ℕ) × CastAnswer)
+unfoldable pub searches : List ((((ℕ → ℕ → ℕ) × ℕ) × ℕ) × Cast)
 searches =
     -- an empty ray: 64, 128, 256, 512 ticks and the 64 that are left
     ((((λ i n. empty_mark), 1024), 5), Complete 5)
@@ -99,17 +102,17 @@ near = replicate 509 empty_mark ++ crossing_mark ∷ replicate 4 inside_mark ++ 
 unfoldable pub rows : List (Request × (CastAnswer × List ℕ))
 rows =
     -- the marks that the ray lister prints, by 49 probes; a byte past them is kept
-    (request (across (pos 0)) 2052 marks, (Complete 49, through))
-    ∷ (request (across (pos 0)) 49 (marks ++ 7 ∷ []), (Complete 49, through ++ 7 ∷ []))
+    (request (across (pos 0)) 2052 marks, (Ok (Complete 49), through))
+    ∷ (request (across (pos 0)) 49 (marks ++ 7 ∷ []), (Ok (Complete 49), through ++ 7 ∷ []))
     -- with one probe less the last 76 ticks are not looked at
-    ∷ (request (across (pos 0)) 48 marks, (Spent 948 48, take 948 through ++ replicate 76 not_looked_at))
-    ∷ (request (across (pos 0)) 0 marks, (Spent 0 0, replicate 1024 not_looked_at))
+    ∷ (request (across (pos 0)) 48 marks, (Ok (Spent 948 48), take 948 through ++ replicate 76 not_looked_at))
+    ∷ (request (across (pos 0)) 0 marks, (Ok (Spent 0 0), replicate 1024 not_looked_at))
     -- "The same ray at y = 512", and "At y = 362"
-    ∷ (request (across (pos 512)) 2052 marks, (Complete 5, replicate 1024 empty_mark))
-    ∷ (request (across (pos 362)) 2052 marks, (Complete 37, near))
+    ∷ (request (across (pos 512)) 2052 marks, (Ok (Complete 5), replicate 1024 empty_mark))
+    ∷ (request (across (pos 362)) 2052 marks, (Ok (Complete 37), near))
     -- refused as a full cast is: "Coordinate 2,048: 12", "A buffer of 1,023 gives 14."
-    ∷ (request (across (pos 2048)) 49 marks, (Refused 12, marks))
-    ∷ (request (across (pos 0)) 49 (replicate 1023 7), (Refused 14, replicate 1023 7))
+    ∷ (request (across (pos 2048)) 49 marks, (Err no.Coordinates, marks))
+    ∷ (request (across (pos 0)) 49 (replicate 1023 7), (Err no.Buffer, replicate 1023 7))
     ∷ []
 
 pub marched : map (λ r. answer r.0) rows ≡ map (λ r. r.1) rows

@@ -1,4 +1,5 @@
 -- Overlaps and cut-outs (document 02, P1) as rows of a table that one theorem covers: lesser and cut, at places and along rays.
+use Rattle.std.specs.Prelude.{Ok, Err}
 use mathlib.Core.Path.{◌≡◌, refl}
 use mathlib.Core.List.{List, [], ◌∷◌, ◌++◌, map}
 use Prim.Native.Nat.{ℕ, ◌+◌}
@@ -19,8 +20,8 @@ use Rattle.field.specs.Bounds.{weighted, point_bounds, join_bounds, tree_bounds,
 use Rattle.field.specs.Marks.{span_state}
 use Rattle.loading.specs.Loading.{position_in_range, ray_in_range, ray_questions}
 use Rattle.bounds.specs.Place.{place_questions, place_answer, place_bounds}
-use Rattle.halving.specs.declared.CastAnswer.TheVariants as cast
-use Rattle.halving.specs.declared.HitAnswer.TheVariants as first
+use Rattle.halving.specs.declared.Cast.TheVariants as cast
+use Rattle.halving.specs.declared.FirstHit.TheVariants as first
 use Rattle.halving.specs.Halving.{span_marks, walk, cast_looked_at, handed}
 use Rattle.halving.specs.FirstHit.{hit}
 use Rattle.cast.specs.Ticks.{ray_state}
@@ -89,15 +90,15 @@ rows =
       low_high (pos 17592186044416) (pos 17592722911232),
     )
     -- a hollow ball: the ray enters as into K, and the cavity shows
-    ∷ (hits hollow (across (pos 0)) 2047, found (first.Hit 330 1 15))
+    ∷ (hits hollow (across (pos 0)) 2047, found (Ok (first.Hit 330 1 15)))
     ∷ (
       full hollow (across (pos 0)) 2047 (replicate 1024 3),
-      marks (cast.Complete 67)
+      marks (Ok (cast.Complete 67))
           (replicate 330 0 ++ replicate 1 1 ++ replicate 90 2 ++ replicate 1 1 ++ replicate 180 0
           ++ replicate 1 1 ++ replicate 90 2 ++ replicate 1 1 ++ replicate 330 0),
     )
     -- what two balls share
-    ∷ (hits lens (across (pos 0)) 2047, found (first.Hit 630 1 17))
+    ∷ (hits lens (across (pos 0)) 2047, found (Ok (first.Hit 630 1 17)))
     ∷ []
 
 pub overlaps : map (λ r. answer r.0) rows ≡ map (λ r. r.1) rows

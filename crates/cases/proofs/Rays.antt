@@ -1,4 +1,5 @@
 -- The starred cases, as rows of a table that one theorem covers (document 01, "Rays and places tried"): a call, and what it answers.
+use Rattle.std.specs.Prelude.{Ok, Err}
 use mathlib.Core.Path.{◌≡◌, refl}
 use mathlib.Core.List.{List, [], ◌∷◌, map}
 use Prim.Native.Nat.{ℕ}
@@ -9,14 +10,13 @@ use Rattle.exact.specs.Rounding.{ceil}
 use Rattle.record.specs.Bytes.{u16, u32, i16, has_bytes, zeros}
 use Rattle.record.specs.Questions.{first_no}
 use Rattle.record.specs.Nodes.{is_point, kind_known, coordinate, in_range, for_point, for_operator, held_after}
-use Rattle.part.specs.File.{records_questions}
+use Rattle.part.specs.File.{records_questions, Checked}
 use Rattle.record.specs.Record.{node_at, zero_bytes, record_at, node_questions, record_questions}
+use Rattle.record.specs.declared.Refusal.TheVariants as no
 use Rattle.part.specs.File.{iso, version, distance, marked, trailer_questions, start, count, records_from, records}
 use Rattle.part.specs.File.{nodes_from, nodes, file_questions, answer_of, check_file}
-use Rattle.part.specs.declared.Checked.{Checked}
-use Rattle.part.specs.declared.Checked.TheVariants as part
-use Rattle.field.specs.declared.Position.{Position}
-use Rattle.field.specs.declared.Ray.{Ray}
+use Rattle.field.specs.Vectors.{Position}
+use Rattle.field.specs.Vectors.{Ray}
 use Rattle.field.specs.Ray.{constant_ray}
 use Rattle.field.specs.Tree.{operator_of, item_of, items, join_top, step, run, tree_value}
 use Rattle.field.specs.Solid.{kernel_of}
@@ -24,13 +24,11 @@ use Rattle.field.specs.Bounds.{ray_square, prepare, distance_at, foot_inside, fo
 use Rattle.field.specs.Bounds.{weighted, point_bounds, join_bounds, tree_bounds, state_of}
 use Rattle.field.specs.Marks.{span_state}
 use Rattle.loading.specs.Loading.{position_in_range, ray_in_range, ray_questions}
-use Rattle.bounds.specs.declared.BoundsAnswer.{BoundsAnswer}
-use Rattle.bounds.specs.declared.BoundsAnswer.TheVariants as place
-use Rattle.bounds.specs.Place.{place_questions, place_answer, place_bounds}
-use Rattle.halving.specs.declared.CastAnswer.{CastAnswer}
-use Rattle.halving.specs.declared.CastAnswer.TheVariants as cast
-use Rattle.halving.specs.declared.HitAnswer.{HitAnswer}
-use Rattle.halving.specs.declared.HitAnswer.TheVariants as first
+use Rattle.bounds.specs.Place.{place_questions, place_answer, place_bounds, BoundsAnswer}
+use Rattle.halving.specs.Answers.{CastAnswer}
+use Rattle.halving.specs.declared.Cast.TheVariants as cast
+use Rattle.halving.specs.Answers.{HitAnswer}
+use Rattle.halving.specs.declared.FirstHit.TheVariants as first
 use Rattle.halving.specs.Halving.{span_marks, walk, cast_looked_at, handed}
 use Rattle.halving.specs.FirstHit.{hit}
 use Rattle.cast.specs.Ticks.{ray_state}
@@ -81,7 +79,7 @@ abbrev pub at : ℤ → ℤ → Position
 at x y = record { x = x; y = y; z = pos 0 }
 
 abbrev pub low_high : ℤ → ℤ → Answer
-low_high low high = bounded (place.Bounded (record { low = low; high = high }))
+low_high low high = bounded (Ok (record { low = low; high = high }))
 
 -- "(−1024, 0, 0) to (1024, 0, 0)", at some y
 abbrev pub across : ℤ → Ray
@@ -100,21 +98,21 @@ rows =
     -- "With w −1: −3,393,645,025 and −3,393,528,516."
     ∷ (bounds (one_point 3 0 0xff 0xff) (at (pos 1) (pos 0)), low_high (neg_ℤ (pos 3393645025)) (neg_ℤ (pos 3393528516)))
     -- "The ray above, first hit: tick 330, crossing, 15 probes."
-    ∷ (hits file_k (across (pos 0)) 2047, found (first.Hit 330 1 15))
+    ∷ (hits file_k (across (pos 0)) 2047, found (Ok (first.Hit 330 1 15)))
     -- "Budget 14: spent at 330."
-    ∷ (hits file_k (across (pos 0)) 14, found (first.Spent 330 14))
+    ∷ (hits file_k (across (pos 0)) 14, found (Ok (first.Spent 330 14)))
     -- "The same ray at y = 512: all empty, 1 probe."
-    ∷ (full file_k (across (pos 512)) 2047 (replicate 1024 3), marks (cast.Complete 1) (replicate 1024 0))
+    ∷ (full file_k (across (pos 512)) 2047 (replicate 1024 3), marks (Ok (cast.Complete 1)) (replicate 1024 0))
     -- "A = B", which becomes an answered case (document 02, P8): every tick is the one place, inside
-    ∷ (hits file_k (constant_ray (at (pos 1) (pos 2))) 2047, found (first.Hit 0 2 1))
-    ∷ (full file_k (constant_ray (at (pos 1) (pos 2))) 2047 (replicate 1024 3), marks (cast.Complete 1) (replicate 1024 2))
+    ∷ (hits file_k (constant_ray (at (pos 1) (pos 2))) 2047, found (Ok (first.Hit 0 2 1)))
+    ∷ (full file_k (constant_ray (at (pos 1) (pos 2))) 2047 (replicate 1024 3), marks (Ok (cast.Complete 1)) (replicate 1024 2))
     -- "Coordinate 2,048: 12; 2,047 passes.", of a place and of a ray
-    ∷ (bounds file_k (at (pos 2048) (pos 0)), bounded (place.Refused 12))
+    ∷ (bounds file_k (at (pos 2048) (pos 0)), bounded (Err no.Coordinates))
     ∷ (bounds file_k (at (pos 2047) (pos 0)), low_high (pos 0) (pos 0))
-    ∷ (hits file_k (across (pos 2048)) 2047, found (first.Refused 12))
-    ∷ (hits file_k (across (pos 2047)) 2047, found (first.Clear 1))
+    ∷ (hits file_k (across (pos 2048)) 2047, found (Err no.Coordinates))
+    ∷ (hits file_k (across (pos 2047)) 2047, found (Ok (first.Clear 1)))
     -- "Bad mark and bad version: 2."
-    ∷ (check bad_mark, checked (part.Refused 2))
+    ∷ (check bad_mark, checked (Err no.Mark))
     ∷ []
 
 pub starred : map (λ r. answer r.0) rows ≡ map (λ r. r.1) rows

@@ -14,6 +14,7 @@
 --     as_hit, as_clear, as_spent; inexact_entry                a viewer's first hit: these four; `exact`
 --     constant_refusal, asked_12_first                         the equation of a full cast's answer
 --     two_nodes, not_enclosing, loose                          the check of a file (`Says`) and the bounds at a place (`PlaceSays`)
+use Rattle.std.specs.Prelude.{Ok, Err}
 use mathlib.Core.Path.{◌≡◌, refl, sym, ap, ◌∙◌, subst}
 use mathlib.Core.List.{List}
 use Prim.Native.Nat.{ℕ, ◌+◌, ◌*◌, ◌/◌, ◌%◌, ◌^◌, ◌≤◌, ◌<◌}
@@ -30,14 +31,14 @@ use Rattle.exact.specs.Fraction.{◌over◌, plus}
 use Rattle.exact.specs.Rounding.{ceil}
 use Rattle.record.specs.Bytes.{u16, u32, i16, has_bytes, zeros}
 use Rattle.record.specs.Questions.{first_no}
-use Rattle.record.specs.declared.Verdict.TheVariants.{Yes}
 use Rattle.record.specs.Nodes.{is_point, kind_known, coordinate, in_range, for_point, for_operator, held_after}
 use Rattle.record.specs.Record.{node_at, zero_bytes, record_at, node_questions, record_questions}
+use Rattle.record.specs.declared.Refusal.{Refusal}
 use Rattle.record.proofs.Questions.{no_is_not_yes}
-use Rattle.part.specs.declared.Checked.TheVariants as part
+use Rattle.record.specs.declared.Refusal.TheVariants as no
 use Rattle.part.specs.File.{iso, version, distance, marked, trailer_questions, start, count, records_from, records, nodes_from, nodes}
 use Rattle.part.specs.File.{records_questions, file_questions, Says}
-use Rattle.field.specs.declared.Ray.{Ray}
+use Rattle.field.specs.Vectors.{Ray}
 use Rattle.field.specs.declared.Bounds.{Bounds}
 use Rattle.field.specs.Ray.{squared_distance, tick, middle, Place}
 use Rattle.field.specs.Kernel.{point_at}
@@ -50,15 +51,13 @@ use Rattle.field.specs.Bounds.{weighted, point_bounds, join_bounds, tree_bounds,
 use Rattle.field.specs.Bounds.{not_looked_at}
 use Rattle.field.specs.Marks.{span_state, mark_of, SoundMark}
 use Rattle.loading.specs.Loading.{position_in_range, ray_in_range, ray_questions}
-use Rattle.bounds.specs.declared.BoundsAnswer.TheVariants as place
 use Rattle.bounds.specs.Place.{place_questions, PlaceSays}
-use Rattle.halving.specs.declared.CastAnswer.{CastAnswer}
-use Rattle.halving.specs.declared.CastAnswer.TheVariants as cast
-use Rattle.halving.specs.declared.HitAnswer.TheVariants as found
+use Rattle.halving.specs.Answers.{cast_reaches, hit_reaches}
+use Rattle.halving.specs.declared.Cast.TheVariants as cast
+use Rattle.halving.specs.declared.FirstHit.TheVariants as found
 use Rattle.halving.specs.Halving.{probe_count, span_marks, walk, cast_looked_at}
 use Rattle.halving.specs.FirstHit.{hit, hit_looked_at}
 use Rattle.halving.proofs.Halving.{Walked}
-use Rattle.cast.specs.declared.ColumnAnswer.TheVariants as column
 use Rattle.cast.specs.Ticks.{exponent, ray_state}
 use Rattle.cast.specs.Column.{middle_solid, tick_bit, bit_of, column_looked_at}
 use Rattle.cast.specs.Questions.{buffer_questions}
@@ -70,7 +69,7 @@ use Rattle.cast.proofs.Demands.{ray_walked, hit_demands}
 use Rattle.march.specs.Marching.{next_tick, next_length, count_from}
 use Rattle.march.specs.Calls.{march_probes}
 use Rattle.march.specs.Demands.{Alike, MarchDemands}
-use Rattle.view.specs.declared.ViewRay.{ViewRay}
+use Rattle.view.specs.Ray.{ViewRay}
 use Rattle.view.specs.declared.ViewAnswer.{ViewAnswer}
 use Rattle.view.specs.declared.ViewAnswer.TheVariants as view
 use Rattle.view.specs.Floats.{tick_at}
@@ -146,20 +145,20 @@ module _ {mark : ℕ} (sound : SoundMark K.iso mark (field_at K ray 0 1) (demand
 
 -- ---- a full cast or a marching cast that is complete, whatever its count
 
-module _ {count most budget probes : ℕ} {after : List ℕ} (d : MarkDemands K ray 1024 count most budget (cast.Complete probes) after) where
+module _ {count most budget probes : ℕ} {after : List ℕ} (d : MarkDemands K ray 1024 count most budget (Ok (cast.Complete probes)) after) where
   -- "constant "crossing", by demand 3's distance"
   pub constant_crossing : get_or after 0 not_looked_at ≡ crossing_mark → ⊥
-  unfolding Alone Sound cast_looked_at
+  unfolding Alone Sound cast_reaches cast_looked_at
   constant_crossing e = not_crossing (d.sound 0 (lit≤ tt) first) (sym (d.alone 0 (lit≤ tt)) ∙ e)
 
   -- and constant "inside"
   pub constant_inside : get_or after 0 not_looked_at ≡ inside_mark → ⊥
-  unfolding Alone Sound cast_looked_at
+  unfolding Alone Sound cast_reaches cast_looked_at
   constant_inside e = not_inside (d.sound 0 (lit≤ tt) first) (sym (d.alone 0 (lit≤ tt)) ∙ e)
 
   -- a byte that is not the tick's mark
   wrong_mark : (t : ℕ) {mark byte : ℕ} → t < 1024 → mark_of K ray 1024 t ≡ mark → get_or after t not_looked_at ≡ byte → (mark ≡ byte → ⊥) → ⊥
-  unfolding Alone cast_looked_at
+  unfolding Alone cast_reaches cast_looked_at
   wrong_mark t h is e wrong = wrong (sym is ∙ sym (d.alone t h) ∙ e)
 
   -- "constant "empty", and untouched buffers, by demand 2's marks": a buffer of what stood there before, of 3 say
@@ -179,7 +178,7 @@ module _ {count most budget probes : ℕ} {after : List ℕ} (d : MarkDemands K 
 
 -- ---- one that is spent
 
-module _ {count most budget t probes : ℕ} {after : List ℕ} (d : MarkDemands K ray 1024 count most budget (cast.Spent t probes) after) where
+module _ {count most budget t probes : ℕ} {after : List ℕ} (d : MarkDemands K ray 1024 count most budget (Ok (cast.Spent t probes)) after) where
   -- ""spent" at once, by the rule that the budget is used up"
   pub spent_at_once : probes < budget → ⊥
   unfolding Counted
@@ -194,15 +193,15 @@ module _ {count most budget t probes : ℕ} {after : List ℕ} (d : MarkDemands 
 
 module _ {budget probes : ℕ} {after : List ℕ} where
   -- "invented probe counts, by the count rule tied to the halvings"
-  pub cast_probes : CastDemands K ray exponent budget (cast.Complete probes) after → (probes ≡ 39 → ⊥) → ⊥
+  pub cast_probes : CastDemands K ray exponent budget (Ok (cast.Complete probes)) after → (probes ≡ 39 → ⊥) → ⊥
   cast_probes d wrong = invented_probes d (λ e. wrong (e ∙ counts_are.0))
 
   -- the halvings' 39, say, for a march
-  pub march_probes_lem : MarchDemands K ray exponent budget (cast.Complete probes) after → (probes ≡ 49 → ⊥) → ⊥
+  pub march_probes_lem : MarchDemands K ray exponent budget (Ok (cast.Complete probes)) after → (probes ≡ 49 → ⊥) → ⊥
   march_probes_lem d wrong = invented_probes d.marks (λ e. wrong (e ∙ marched_are.0))
 
   -- a mark that is not the full cast's
-  pub unlike : MarchDemands K ray exponent budget (cast.Complete probes) after → get_or after 600 not_looked_at ≡ empty_mark → ⊥
+  pub unlike : MarchDemands K ray exponent budget (Ok (cast.Complete probes)) after → get_or after 600 not_looked_at ≡ empty_mark → ⊥
   unfolding Alike
   unlike d e =
       let same : get_or after 600 not_looked_at ≡ inside_mark =
@@ -212,7 +211,7 @@ module _ {budget probes : ℕ} {after : List ℕ} where
 -- ---- a first hit
 
 -- of the ray it is at tick 330
-hit_is : first_hit file_k ray 2047 ≡ found.Hit 330 crossing_mark 15
+hit_is : first_hit file_k ray 2047 ≡ Ok (found.Hit 330 crossing_mark 15)
 unfolding
     u16 u32 i16 has_bytes zeros first_no is_point kind_known coordinate in_range for_point for_operator held_after node_questions record_questions
     records_questions iso version distance marked trailer_questions start count node_at zero_bytes record_at records_from records nodes_from nodes
@@ -230,26 +229,26 @@ hit_first =
 
 module _ {budget : ℕ} where
   -- a hit that is not the first: right halves first, say
-  pub later_hit : {t mark probes : ℕ} → 330 < t → HitDemands K ray exponent budget (found.Hit t mark probes) → ⊥
+  pub later_hit : {t mark probes : ℕ} → 330 < t → HitDemands K ray exponent budget (Ok (found.Hit t mark probes)) → ⊥
   unfolding AloneHit Empty
   later_hit h d = omega (arith, marks_are.0, d.alone.3 330 h)
 
   -- a hit with a mark that is not the tick's
-  pub wrong_hit : {mark probes : ℕ} → (crossing_mark ≡ mark → ⊥) → HitDemands K ray exponent budget (found.Hit 330 mark probes) → ⊥
+  pub wrong_hit : {mark probes : ℕ} → (crossing_mark ≡ mark → ⊥) → HitDemands K ray exponent budget (Ok (found.Hit 330 mark probes)) → ⊥
   unfolding AloneHit
   wrong_hit wrong d = wrong (sym marks_are.0 ∙ d.alone.1)
 
   -- a crossing where the ray starts
-  pub hit_at_start : {probes : ℕ} → HitDemands K ray exponent budget (found.Hit 0 crossing_mark probes) → ⊥
-  unfolding AloneHit Sound hit_looked_at
+  pub hit_at_start : {probes : ℕ} → HitDemands K ray exponent budget (Ok (found.Hit 0 crossing_mark probes)) → ⊥
+  unfolding AloneHit Sound hit_reaches hit_looked_at
   hit_at_start d = not_crossing (d.sound 0 (lit≤ tt) first) d.alone.1
 
-  pub constant_clear : {probes : ℕ} → HitDemands K ray exponent budget (found.Clear probes) → ⊥
+  pub constant_clear : {probes : ℕ} → HitDemands K ray exponent budget (Ok (found.Clear probes)) → ⊥
   unfolding AloneHit Empty
   constant_clear d = omega (arith, marks_are.0, d.alone 330 (lit≤ tt))
 
   -- 15 is the least budget with which the full cast looks at tick 330
-  pub hit_probes : {mark probes : ℕ} → (probes ≡ 15 → ⊥) → HitDemands K ray exponent budget (found.Hit 330 mark probes) → ⊥
+  pub hit_probes : {mark probes : ℕ} → (probes ≡ 15 → ⊥) → HitDemands K ray exponent budget (Ok (found.Hit 330 mark probes)) → ⊥
   unfolding SameOrder
   hit_probes {probes = p} wrong d = wrong (elim (dec_le p 14) [
     | yes h ↦ absurd (omega (arith, counts_are.1, (d.order 14).0 h))
@@ -257,21 +256,21 @@ module _ {budget : ℕ} where
   ])
 
   -- 2 × 330 + 11 is 671: a hit that took more
-  pub dear_hit : {mark probes : ℕ} → 671 < probes → HitDemands K ray exponent budget (found.Hit 330 mark probes) → ⊥
+  pub dear_hit : {mark probes : ℕ} → 671 < probes → HitDemands K ray exponent budget (Ok (found.Hit 330 mark probes)) → ⊥
   unfolding PromptHit
   dear_hit h d = omega (arith, d.prompt)
 
   -- a search that is spent at a tick with the budget for a hit there
-  pub spent_late : {t probes : ℕ} → 2 * t + 11 ≤ budget → HitDemands K ray exponent budget (found.Spent t probes) → ⊥
+  pub spent_late : {t probes : ℕ} → 2 * t + 11 ≤ budget → HitDemands K ray exponent budget (Ok (found.Spent t probes)) → ⊥
   unfolding PromptHit
   spent_late h d = omega (arith, d.prompt)
 
   -- and one that is spent anywhere, though the budget is enough for the hit at tick 330
-  pub spent_in_time : {t probes : ℕ} → 671 ≤ budget → HitDemands K ray exponent budget (found.Spent t probes) → ⊥
+  pub spent_in_time : {t probes : ℕ} → 671 ≤ budget → HitDemands K ray exponent budget (Ok (found.Spent t probes)) → ⊥
   unfolding FoundHit HitAt
   spent_in_time h d = d.in_time 330 hit_first h
 
-  pub hit_spent_at_once : {t probes : ℕ} → probes < budget → HitDemands K ray exponent budget (found.Spent t probes) → ⊥
+  pub hit_spent_at_once : {t probes : ℕ} → probes < budget → HitDemands K ray exponent budget (Ok (found.Spent t probes)) → ⊥
   unfolding CountedHit
   hit_spent_at_once h d = omega (arith, d.counted.0)
 
@@ -293,7 +292,7 @@ unfolding
     run tree_value version kernel_of plus squared_distance point_at field_at rounding_of sum_over rounding
 middle_is = (refl, refl, refl)
 
-module _ {probes : ℕ} {after : List ℕ} (d : ColumnDemands K ray exponent (column.Complete probes) after) where
+module _ {probes : ℕ} {after : List ℕ} (d : ColumnDemands K ray exponent (Ok probes) after) where
   -- a bit that is not the tick's
   wrong_bit : (t : ℕ) {bit : ℕ} → t < 1024 → bit_of K ray 1024 t ≡ bit → (get_or after (t / 8) 0 / 2 ^ (t % 8) % 2 ≡ bit → ⊥) → ⊥
   unfolding AloneBits column_looked_at
@@ -350,16 +349,16 @@ module _ {budget : ℕ} (a : ViewAnswer) (d : ViewDemands file_k seen exponent b
 
 module _ {budget probes : ℕ} where
   pub as_hit : {mark : ℕ} {entry : Float} → ViewDemands file_k seen exponent budget (view.Hit entry mark probes)
-      → HitDemands K ray exponent budget (found.Hit (tick_at 1024 entry) mark probes)
+      → HitDemands K ray exponent budget (Ok (found.Hit (tick_at 1024 entry) mark probes))
   unfolding in_ticks CountedView
   as_hit d = by_steps _ d d.counted
 
-  pub as_clear : ViewDemands file_k seen exponent budget (view.Clear probes) → HitDemands K ray exponent budget (found.Clear probes)
+  pub as_clear : ViewDemands file_k seen exponent budget (view.Clear probes) → HitDemands K ray exponent budget (Ok (found.Clear probes))
   unfolding in_ticks CountedView
   as_clear d = by_steps _ d d.counted
 
   pub as_spent : {place : Float} → ViewDemands file_k seen exponent budget (view.Spent place probes)
-      → HitDemands K ray exponent budget (found.Spent (tick_at 1024 place) probes)
+      → HitDemands K ray exponent budget (Ok (found.Spent (tick_at 1024 place) probes))
   unfolding in_ticks CountedView
   as_spent d = by_steps _ d d.counted
 
@@ -377,8 +376,8 @@ module _ {budget mark probes : ℕ} where
 -- ---- refusals, the check of a file, and the bounds at a place
 
 -- the questions about file K, about the ray and about the place (0, 0, 0): each is answered yes
-accepted_are : (first_no (file_questions file_k) ≡ Yes) × (first_no (buffer_questions file_k ray 1024 1024) ≡ Yes)
-    × (first_no (place_questions file_k (at (pos 0) (pos 0))) ≡ Yes)
+accepted_are : (first_no (file_questions file_k) ≡ Ok tt) × (first_no (buffer_questions file_k ray 1024 1024) ≡ Ok tt)
+    × (first_no (place_questions file_k (at (pos 0) (pos 0))) ≡ Ok tt)
 unfolding
     u16 u32 i16 has_bytes zeros first_no is_point kind_known coordinate in_range for_point for_operator held_after node_questions record_questions
     records_questions iso version distance marked trailer_questions start count node_at zero_bytes record_at records_from records file_questions
@@ -386,14 +385,15 @@ unfolding
 accepted_are = (refl, refl, refl)
 
 -- "constant refusal": the call's answer is none, whatever the budget
-pub constant_refusal : (budget number : ℕ) → full_cast file_k ray budget 1024 ≡ cast.Refused number → ⊥
+pub constant_refusal : (budget : ℕ) (refusal : Refusal) → full_cast file_k ray budget 1024 ≡ Err refusal → ⊥
 unfolding full_cast cast_after
-constant_refusal budget number e =
-    let f : ray_walk K ray exponent budget ≡ cast.Refused number = rw accepted_are.1 at e in
-    subst (λ (w : CastAnswer). Walked (ray_state K ray 1024) budget exponent 0 0 w) f (ray_walked K ray exponent budget)
+constant_refusal budget refusal e =
+    let f : Ok (ray_walk K ray exponent budget) ≡ Err refusal = rw accepted_are.1 at e in
+    let z : ◌≡◌ {A = ℕ} 0 1 = cc in
+    omega (arith, z)
 
 -- with a coordinate of 2,048 and a short buffer 12 is the first no, and not 14
-pub asked_12_first : (budget : ℕ) → full_cast file_k (across (pos 2048)) budget 1023 ≡ cast.Refused 12
+pub asked_12_first : (budget : ℕ) → full_cast file_k (across (pos 2048)) budget 1023 ≡ Err no.Coordinates
 unfolding
     u16 u32 i16 has_bytes zeros first_no is_point kind_known coordinate in_range for_point for_operator held_after node_questions record_questions
     records_questions iso version distance marked trailer_questions start count node_at zero_bytes record_at records_from records file_questions
@@ -401,26 +401,26 @@ unfolding
 asked_12_first budget = refl
 
 -- a check that refuses file K, one that counts two nodes, and one that reads another version
-pub refused_file : (number : ℕ) → Says file_k (part.Refused number) → ⊥
+pub refused_file : (refusal : Refusal) → Says file_k (Err refusal) → ⊥
 unfolding Says
-refused_file number e = no_is_not_yes (sym e ∙ accepted_are.0)
+refused_file refusal e = no_is_not_yes (sym e ∙ accepted_are.0)
 
-pub two_nodes : (i v : ℕ) → Says file_k (part.Accepted (record { nodes = 2; iso = i; version = v })) → ⊥
+pub two_nodes : (i v : ℕ) → Says file_k (Ok (record { nodes = 2; iso = i; version = v })) → ⊥
 unfolding Says u16 u32 distance count
 two_nodes i v (ok, n, _, _) = omega (arith, n)
 
-pub another_version : (n i : ℕ) → Says file_k (part.Accepted (record { nodes = n; iso = i; version = 2 })) → ⊥
+pub another_version : (n i : ℕ) → Says file_k (Ok (record { nodes = n; iso = i; version = 2 })) → ⊥
 unfolding Says u16 version
 another_version n i (ok, _, _, v) = omega (arith, v)
 
 -- the exact field at the origin is 4: a high below that does not enclose it; and bounds that do are not the tree's if they are looser
-pub not_enclosing : (low : ℤ) → PlaceSays file_k (at (pos 0) (pos 0)) (place.Bounded (record { low = low; high = pos 17179869183 })) → ⊥
+pub not_enclosing : (low : ℤ) → PlaceSays file_k (at (pos 0) (pos 0)) (Ok (record { low = low; high = pos 17179869183 })) → ⊥
 unfolding
     u16 u32 i16 is_point iso distance start count node_at zero_bytes record_at records_from nodes_from nodes operator_of item_of items join_top step
     run tree_value version kernel_of squared_distance point_at field_at PlaceSays
 not_enclosing low b = b.encloses.below.cross.le
 
-pub loose : PlaceSays file_k (at (pos 0) (pos 0)) (place.Bounded (record { low = pos 0; high = pos 17179869184 })) → ⊥
+pub loose : PlaceSays file_k (at (pos 0) (pos 0)) (Ok (record { low = pos 0; high = pos 17179869184 })) → ⊥
 unfolding
     u16 u32 i16 is_point iso distance start count node_at zero_bytes record_at records_from nodes_from nodes ceil operator_of item_of items join_top
     step run tree_value version kernel_of ray_square prepare distance_at foot_inside foot_distance low_q high_q qlo qhi weighted point_bounds

@@ -5,6 +5,7 @@
 --     cleared_before, cleared_after `before_kept`, `after_kept`
 --     changed_refused               a refused call changes no byte
 --     other_file                    `Returned`
+use Rattle.std.specs.Prelude.{Ok, Err}
 use Prim.Native.Nat.{ℕ, zero, suc}
 use native.Mathlib.Nat.{not-suc-le-zero}
 use native.Mathlib.Omega.{arith}
@@ -17,20 +18,16 @@ use lib.IntN.{ℤ, pos, negsuc, nat_abs}
 use lib.Dec.{ltb}
 use Rattle.exact.proofs.Tests.{both_true}
 use Rattle.record.specs.Bytes.{u16, u32, i16, has_bytes, zeros}
-use Rattle.record.specs.Questions.{first_no}
+use Rattle.record.specs.Questions.{first_no, Verdict}
 use Rattle.record.specs.Nodes.{is_point, kind_known, coordinate, in_range, for_point, for_operator, held_after}
 use Rattle.record.specs.Record.{node_at, zero_bytes, record_at, node_questions, record_questions}
-use Rattle.record.specs.declared.Verdict.{Verdict}
-use Rattle.record.specs.declared.Verdict.TheVariants.{Yes, No}
-use Rattle.part.specs.File.{iso, version, distance, marked, trailer_questions, start, count, records_from, records, nodes_from, nodes}
+use Rattle.record.specs.declared.Refusal.TheVariants as no
+use Rattle.part.specs.File.{iso, version, distance, marked, trailer_questions, start, count, records_from, records, nodes_from, nodes, Checked}
 use Rattle.part.specs.File.{records_questions, file_questions, answer_of, check_file}
-use Rattle.part.specs.declared.Checked.{Checked}
-use Rattle.part.specs.declared.Checked.TheVariants as part
 use Rattle.nodes.specs.Numbers.{numbers}
 use Rattle.writer.specs.Bytes.{Octets, bits16, u16_bytes, u32_bytes, i16_bytes, record_bytes, records_bytes, size, trailer_bytes, part_bytes}
 use Rattle.writer.specs.Given.{node_in, nodes_in, given, others_zero, record_of}
 use Rattle.writer.specs.Writer.{counted, has_room, writer_questions, WriteSays, ReadFrom, Returned}
-use Rattle.writer.specs.declared.Written.TheVariants.{Refused, End}
 
 -- a point with its kind, r and x given; an operator with its w given
 abbrev point : ℤ → ℤ → ℤ → List ℤ
@@ -66,50 +63,50 @@ row l i room place answer = row_of 1 l i room place answer
 unfoldable pub rows : List Row
 rows =
     -- file K; its buffer one byte short; the last place, and one more; the largest place
-    row point_k 1 24 0 Yes
-    ∷ row point_k 1 23 0 (No 17)
-    ∷ row point_k 1 70000 65512 Yes
-    ∷ row point_k 1 70000 65513 (No 17)
-    ∷ row point_k 1 24 18446744073709551615 (No 17)
+    row point_k 1 24 0 (Ok tt)
+    ∷ row point_k 1 23 0 (Err no.Room)
+    ∷ row point_k 1 70000 65512 (Ok tt)
+    ∷ row point_k 1 70000 65513 (Err no.Room)
+    ∷ row point_k 1 24 18446744073709551615 (Err no.Room)
     -- none, five, seven and 3,072 numbers; 16 comes before 5
-    ∷ row [] 1 24 0 (No 16)
-    ∷ row (replicate 5 (pos 1)) 1 24 0 (No 16)
-    ∷ row (pos 1 ∷ point_k) 0 24 0 (No 16)
-    ∷ row (points 512) 1 70000 0 (No 16)
+    ∷ row [] 1 24 0 (Err no.Numbers)
+    ∷ row (replicate 5 (pos 1)) 1 24 0 (Err no.Numbers)
+    ∷ row (pos 1 ∷ point_k) 0 24 0 (Err no.Numbers)
+    ∷ row (points 512) 1 70000 0 (Err no.Numbers)
     -- versions 0, 2, 3 and 65,537; 16 comes before 3, and 3 before 5
-    ∷ row_of 0 point_k 1 24 0 (No 3)
-    ∷ row_of 2 point_k 1 24 0 Yes
-    ∷ row_of 3 point_k 1 24 0 (No 3)
-    ∷ row_of 65537 point_k 1 24 0 (No 3)
-    ∷ row_of 3 (pos 1 ∷ point_k) 1 24 0 (No 16)
-    ∷ row_of 3 point_k 0 24 0 (No 3)
+    ∷ row_of 0 point_k 1 24 0 (Err no.Version)
+    ∷ row_of 2 point_k 1 24 0 (Ok tt)
+    ∷ row_of 3 point_k 1 24 0 (Err no.Version)
+    ∷ row_of 65537 point_k 1 24 0 (Err no.Version)
+    ∷ row_of 3 (pos 1 ∷ point_k) 1 24 0 (Err no.Numbers)
+    ∷ row_of 3 point_k 0 24 0 (Err no.Version)
     -- iso-value 0, 4,096 and 4,097; 5 comes before 6
-    ∷ row point_k 0 24 0 (No 5)
-    ∷ row point_k 4096 24 0 Yes
-    ∷ row point_k 4097 24 0 (No 5)
-    ∷ row (operator (pos 0) (pos 0)) 0 24 0 (No 5)
+    ∷ row point_k 0 24 0 (Err no.Iso)
+    ∷ row point_k 4096 24 0 (Ok tt)
+    ∷ row point_k 4097 24 0 (Err no.Iso)
+    ∷ row (operator (pos 0) (pos 0)) 0 24 0 (Err no.Iso)
     -- kinds 0, 6, 257 and −1; 6 comes before 17
-    ∷ row (operator (pos 0) (pos 0)) 1 24 0 (No 6)
-    ∷ row (operator (pos 6) (pos 0)) 1 24 0 (No 6)
-    ∷ row (point (pos 257) (pos 512) (pos 0)) 1 24 0 (No 6)
-    ∷ row (point (negsuc 0) (pos 512) (pos 0)) 1 0 0 (No 6)
+    ∷ row (operator (pos 0) (pos 0)) 1 24 0 (Err no.Kind)
+    ∷ row (operator (pos 6) (pos 0)) 1 24 0 (Err no.Kind)
+    ∷ row (point (pos 257) (pos 512) (pos 0)) 1 24 0 (Err no.Kind)
+    ∷ row (point (negsuc 0) (pos 512) (pos 0)) 1 0 0 (Err no.Kind)
     -- an operator's other numbers, also one that is 0 in its low 16 bits; 7 comes before 9
-    ∷ row (operator (pos 2) (pos 1)) 1 24 0 (No 7)
-    ∷ row (operator (pos 2) (pos 65536)) 1 24 0 (No 7)
+    ∷ row (operator (pos 2) (pos 1)) 1 24 0 (Err no.ZeroBytes)
+    ∷ row (operator (pos 2) (pos 65536)) 1 24 0 (Err no.ZeroBytes)
     -- r 1,024, 1,025 and 65,537; x −2,047, −2,048 and 65,536
-    ∷ row (point (pos 1) (pos 1024) (pos 0)) 1 24 0 Yes
-    ∷ row (point (pos 1) (pos 1025) (pos 0)) 1 24 0 (No 8)
-    ∷ row (point (pos 1) (pos 65537) (pos 0)) 1 24 0 (No 8)
-    ∷ row (point (pos 1) (pos 512) (negsuc 2046)) 1 24 0 Yes
-    ∷ row (point (pos 1) (pos 512) (negsuc 2047)) 1 24 0 (No 8)
-    ∷ row (point (pos 1) (pos 512) (pos 65536)) 1 24 0 (No 8)
+    ∷ row (point (pos 1) (pos 1024) (pos 0)) 1 24 0 (Ok tt)
+    ∷ row (point (pos 1) (pos 1025) (pos 0)) 1 24 0 (Err no.Point)
+    ∷ row (point (pos 1) (pos 65537) (pos 0)) 1 24 0 (Err no.Point)
+    ∷ row (point (pos 1) (pos 512) (negsuc 2046)) 1 24 0 (Ok tt)
+    ∷ row (point (pos 1) (pos 512) (negsuc 2047)) 1 24 0 (Err no.Point)
+    ∷ row (point (pos 1) (pos 512) (pos 65536)) 1 24 0 (Err no.Point)
     -- a lone cut; the 65th held point; 64 values at the end, and two; two points and a cut; 11 comes before 17
-    ∷ row (operator (pos 5) (pos 0)) 1 24 0 (No 9)
-    ∷ row (points 65) 1 70000 0 (No 10)
-    ∷ row (points 64) 1 70000 0 (No 11)
-    ∷ row (points 2) 1 0 0 (No 11)
-    ∷ row (points 2 ++ operator (pos 5) (pos 0)) 1 48 0 Yes
-    ∷ row (points 2 ++ operator (pos 5) (pos 0)) 1 47 0 (No 17)
+    ∷ row (operator (pos 5) (pos 0)) 1 24 0 (Err no.Operands)
+    ∷ row (points 65) 1 70000 0 (Err no.Depth)
+    ∷ row (points 64) 1 70000 0 (Err no.Root)
+    ∷ row (points 2) 1 0 0 (Err no.Root)
+    ∷ row (points 2 ++ operator (pos 5) (pos 0)) 1 48 0 (Ok tt)
+    ∷ row (points 2 ++ operator (pos 5) (pos 0)) 1 47 0 (Err no.Room)
     ∷ []
 
 pub asked : map (λ r. first_no (writer_questions r.numbers r.iso r.version r.room r.place)) rows ≡ map (λ r. r.answer) rows
@@ -156,15 +153,15 @@ left a x y i b =
     a ∷ 0x01 ∷ 0x00 ∷ 0x00 ∷ 0x02 ∷ x ∷ 0x00 ∷ y ∷ 0x00 ∷ 0x00 ∷ 0x00 ∷ 0x04 ∷ 0x00
     ∷ i ∷ 0x00 ∷ 0x01 ∷ 0x00 ∷ 0x18 ∷ 0x00 ∷ 0x00 ∷ 0x00 ∷ 0x54 ∷ 0x52 ∷ 0x45 ∷ 0x45 ∷ b ∷ []
 
-pub exchanged : WriteSays point_a 1 1 lent 1 (End 25) (left 0x77 2 1 1 0x77) → ⊥
+pub exchanged : WriteSays point_a 1 1 lent 1 (Ok 25) (left 0x77 2 1 1 0x77) → ⊥
 unfolding WriteSays u16 u32 i16 distance start count node_at zero_bytes record_at records_from nodes_from nodes numbers
 exchanged says = omega (arith, ap (λ (l : List ℤ). nat_abs (get_or l 2 (pos 0))) says.read)
 
 iso_of : Checked → ℕ
-iso_of (part.Refused number) = 0
-iso_of (part.Accepted s) = s.iso
+iso_of (Err refusal) = 0
+iso_of (Ok s) = s.iso
 
-pub other_iso : WriteSays point_a 1 1 lent 1 (End 25) (left 0x77 1 2 3 0x77) → ⊥
+pub other_iso : WriteSays point_a 1 1 lent 1 (Ok 25) (left 0x77 1 2 3 0x77) → ⊥
 unfolding
     WriteSays iso_of u16 u32 i16 has_bytes zeros first_no is_point kind_known coordinate in_range for_point for_operator held_after node_at
     zero_bytes record_at node_questions record_questions iso version distance marked trailer_questions start count records_from records
@@ -172,26 +169,26 @@ unfolding
 other_iso says = omega (arith, ap iso_of says.checked)
 
 version_of : Checked → ℕ
-version_of (part.Refused number) = 0
-version_of (part.Accepted s) = s.version
+version_of (Err refusal) = 0
+version_of (Ok s) = s.version
 
 -- version 1 written where 2 was given
-pub other_version : WriteSays point_a 1 2 lent 1 (End 25) (left 0x77 1 2 1 0x77) → ⊥
+pub other_version : WriteSays point_a 1 2 lent 1 (Ok 25) (left 0x77 1 2 1 0x77) → ⊥
 unfolding
     WriteSays version_of u16 u32 i16 has_bytes zeros first_no is_point kind_known coordinate in_range for_point for_operator held_after node_at
     zero_bytes record_at node_questions record_questions iso version distance marked trailer_questions start count records_from records
     records_questions file_questions answer_of check_file
 other_version says = omega (arith, ap version_of says.checked)
 
-pub cleared_before : WriteSays point_a 1 1 lent 1 (End 25) (left 0 1 2 1 0x77) → ⊥
+pub cleared_before : WriteSays point_a 1 1 lent 1 (Ok 25) (left 0 1 2 1 0x77) → ⊥
 unfolding WriteSays
 cleared_before says = omega (arith, ap (λ (l : List ℕ). get_or l 0 0) says.before_kept)
 
-pub cleared_after : WriteSays point_a 1 1 lent 1 (End 25) (left 0x77 1 2 1 0) → ⊥
+pub cleared_after : WriteSays point_a 1 1 lent 1 (Ok 25) (left 0x77 1 2 1 0) → ⊥
 unfolding WriteSays
 cleared_after says = omega (arith, ap (λ (l : List ℕ). get_or l 0 0) says.after_kept)
 
-pub changed_refused : WriteSays point_a 0 1 lent 1 (Refused 5) (left 0x77 1 2 0 0x77) → ⊥
+pub changed_refused : WriteSays point_a 0 1 lent 1 (Err no.Iso) (left 0x77 1 2 0 0x77) → ⊥
 unfolding WriteSays
 changed_refused (first, refusal, same) = omega (arith, ap (λ (l : List ℕ). get_or l 1 0) same)
 
@@ -227,7 +224,7 @@ read_K = record {
   room_enough = omega arith;
 }
 
-pub other_file : (after : List ℕ) → get_or after 5 0 ≡ 1 → Returned point_k 1 1 (replicate 24 0x77) 0 (End 24) after → ⊥
+pub other_file : (after : List ℕ) → get_or after 5 0 ≡ 1 → Returned point_k 1 1 (replicate 24 0x77) 0 (Ok 24) after → ⊥
 unfolding Returned node_in nodes_in given bits16 u16_bytes u32_bytes i16_bytes record_bytes records_bytes size trailer_bytes part_bytes
 other_file after one returned =
     let e : get_or after 5 0 ≡ 0 = ap (λ (l : List ℕ). get_or l 5 0) (returned file_k read_K refl).1 in

@@ -1,6 +1,7 @@
 -- What each way out of the calls shows. An accepted file and ray can be searched (`searchable`), and the states of the ray's spans that the search
 -- finds in the prepared numbers are those of the file's solid on it (`states_are`), for any number of ticks up to 4,096; so are a column's bits, up
 -- to 2,048 (`bits_are`). The searches look at no other spans (`halving`, proofs/Within).
+use Rattle.std.specs.Prelude.{Ok, Err}
 use mathlib.Core.Path.{◌≡◌, refl, ap, ap₂, ◌∙◌}
 use mathlib.Core.List.{List, [], ◌∷◌, ◌++◌}
 use Prim.Native.Nat.{ℕ, ◌^◌, ◌≤◌, ◌<◌}
@@ -11,12 +12,12 @@ use lib.IntN.{ℤ}
 use lib.Dec.{leb}
 use lib.Pow.{pow_pos}
 use Rattle.part.specs.declared.Summary.{Summary}
-use Rattle.part.specs.declared.Checked.TheVariants.{Accepted, Refused}
-use Rattle.record.specs.Questions.{first_no}
-use Rattle.record.specs.declared.Verdict.{Verdict}
+use Rattle.record.specs.Questions.{first_no, Verdict}
 use Rattle.record.proofs.Questions.{yes_append, all_yes}
+use Rattle.record.specs.declared.Refusal.{Refusal}
+use Rattle.record.specs.declared.Refusal.TheVariants as no
 use Rattle.part.proofs.File.{answer_accepted, answer_refused}
-use Rattle.field.specs.declared.Ray.{Ray}
+use Rattle.field.specs.Vectors.{Ray}
 use Rattle.field.specs.Ray.{ticks, middle}
 use Rattle.field.specs.Solid.{solid_of}
 use Rattle.field.specs.Bounds.{empty_mark, solid_by}
@@ -26,19 +27,16 @@ use Rattle.loading.specs.Loading.{ray_questions, check_ray, loaded_ray}
 use Rattle.loading.proofs.Loading.{accepted_ray}
 use Rattle.bounds.proofs.Serving.{Serves, serves}
 use Rattle.halving.specs.declared.Search.{Search}
-use Rattle.halving.specs.declared.CastAnswer.{CastAnswer}
-use Rattle.halving.specs.declared.CastAnswer.TheVariants as cast
-use Rattle.halving.specs.declared.HitAnswer.{HitAnswer}
-use Rattle.halving.specs.declared.HitAnswer.TheVariants as found
+use Rattle.halving.specs.declared.Cast.{Cast}
+use Rattle.halving.specs.declared.FirstHit.{FirstHit}
+use Rattle.halving.specs.Answers.{CastAnswer, HitAnswer}
 use Rattle.halving.specs.Search.{state_in, Searchable, Halvable}
 use Rattle.halving.specs.Halving.{probe_count, span_marks, walk, handed}
 use Rattle.halving.specs.FirstHit.{hit}
 use Rattle.halving.proofs.Within.{span_ranges, Agree, count_within, marks_within, walk_within, hit_within}
-use Rattle.cast.specs.declared.ColumnAnswer.{ColumnAnswer}
-use Rattle.cast.specs.declared.ColumnAnswer.TheVariants as column
 use Rattle.cast.specs.Ticks.{exponent, ray_state}
 use Rattle.cast.specs.Questions.{buffer_questions, check_buffer}
-use Rattle.cast.specs.Column.{column_bytes, middle_in, middle_solid, tick_bit, bit_in, bit_of, packed}
+use Rattle.cast.specs.Column.{column_bytes, middle_in, middle_solid, tick_bit, bit_in, bit_of, packed, ColumnAnswer}
 use Rattle.cast.specs.Calls.{cast_after, full_cast, marks_after, marks_left}
 use Rattle.cast.specs.Calls.{hit_after, first_hit, column_after, column_answer, bits_after, bits_left}
 use Rattle.cast.specs.Demands.{CastDemands, HitDemands, ColumnDemands}
@@ -55,19 +53,19 @@ pub whole : (k : ℕ) → Halvable (2 ^ k) 0 (2 ^ k) k
 whole k = record { size = refl; end = omega arith }
 
 module _ (file : List ℕ) (ray : Ray) where
-  pub ray_accepted : (need room : ℕ) {part : Summary} → check_buffer file ray need room ≡ Accepted part → check_ray file ray ≡ Accepted part
+  pub ray_accepted : (need room : ℕ) {part : Summary} → check_buffer file ray need room ≡ Ok part → check_ray file ray ≡ Ok part
   unfolding check_buffer buffer_questions check_ray
-  ray_accepted need room e = asked_before (ray_questions file ray) ((14, leb need room) ∷ []) file e
+  ray_accepted need room e = asked_before (ray_questions file ray) ((no.Buffer, leb need room) ∷ []) file e
 
-  pub room_enough : (need room : ℕ) {part : Summary} → check_buffer file ray need room ≡ Accepted part → need ≤ room
+  pub room_enough : (need room : ℕ) {part : Summary} → check_buffer file ray need room ≡ Ok part → need ≤ room
   unfolding check_buffer buffer_questions
   room_enough need room e =
       let v = answer_accepted (first_no (buffer_questions file ray need room)) file e in
-      leb-true need room (all_yes ((14, leb need room) ∷ []) (yes_append (ray_questions file ray) ((14, leb need room) ∷ []) v).1 0)
+      leb-true need room (all_yes ((no.Buffer, leb need room) ∷ []) (yes_append (ray_questions file ray) ((no.Buffer, leb need room) ∷ []) v).1 0)
 
   -- the array that `load_ray` leaves
   module _ (lent l : List ℤ) (long : length lent ≡ prepared_room) (loaded : l ≡ loaded_ray file ray lent)
-      {part : Summary} (e : check_ray file ray ≡ Accepted part) where
+      {part : Summary} (e : check_ray file ray ≡ Ok part) where
     served : Serves file ray l part
     served = rw loaded (serves file ray lent long e)
 
@@ -96,7 +94,7 @@ module _ (file : List ℕ) (ray : Ray) where
 
 -- ---- a cast that hands over T ticks' marks: in the states it finds an answer, and marks of every tick
 
-module _ (file : List ℕ) (ray : Ray) (T : ℕ) (lent : List ℕ) (answer-in : (ℕ → ℕ → ℕ) → CastAnswer) (marks-in : (ℕ → ℕ → ℕ) → List ℕ) where
+module _ (file : List ℕ) (ray : Ray) (T : ℕ) (lent : List ℕ) (cast-in : (ℕ → ℕ → ℕ) → Cast) (marks-in : (ℕ → ℕ → ℕ) → List ℕ) where
   abbrev states : ℕ → ℕ → ℕ
   states = ray_state (solid_of file) ray T
 
@@ -105,22 +103,22 @@ module _ (file : List ℕ) (ray : Ray) (T : ℕ) (lent : List ℕ) (answer-in : 
 
   -- its answer and the buffer afterwards
   abbrev pub Made : CastAnswer → List ℕ → Type 0
-  Made w l = (w ≡ cast_after verdict (answer-in states)) × (l ≡ marks_after verdict T (answer-in states) (marks-in states) lent)
+  Made w l = (w ≡ cast_after verdict (cast-in states)) × (l ≡ marks_after verdict T (cast-in states) (marks-in states) lent)
 
-  pub marks_refused : {n : ℕ} → check_buffer file ray T (length lent) ≡ Refused n → Made (cast.Refused n) lent
+  pub marks_refused : {e : Refusal} → check_buffer file ray T (length lent) ≡ Err e → Made (Err e) lent
   unfolding check_buffer cast_after marks_after
   marks_refused e = let v = answer_refused verdict file e in (rw v, rw v)
 
-  pub marks_made : {st : ℕ → ℕ → ℕ} (w : CastAnswer) (l : List ℕ) {part : Summary} → answer-in st ≡ answer-in states → marks-in st ≡ marks-in states
-      → check_buffer file ray T (length lent) ≡ Accepted part → w ≡ answer-in st → l ≡ handed T w (marks-in st) ++ drop T lent → Made w l
+  pub marks_made : {st : ℕ → ℕ → ℕ} (w : Cast) (l : List ℕ) {part : Summary} → cast-in st ≡ cast-in states → marks-in st ≡ marks-in states
+      → check_buffer file ray T (length lent) ≡ Ok part → w ≡ cast-in st → l ≡ handed T w (marks-in st) ++ drop T lent → Made (Ok w) l
   unfolding check_buffer cast_after marks_after
   marks_made w l same_answer same_marks e answer bytes =
       let v = answer_accepted verdict file e in
       let a = answer ∙ same_answer in (
-        rw v a,
+        rw v (ap Ok a),
         rw v (bytes
             ∙ ap (λ (ms : List ℕ). handed T w ms ++ drop T lent) same_marks
-            ∙ ap (λ (w : CastAnswer). handed T w (marks-in states) ++ drop T lent) a),
+            ∙ ap (λ (w : Cast). handed T w (marks-in states) ++ drop T lent) a),
       )
 
 -- ---- full cast
@@ -133,7 +131,7 @@ module _ (file : List ℕ) (ray : Ray) (budget : ℕ) (lent : List ℕ) where
       × ((l ≡ marks_left file ray budget lent) × CastDemands (solid_of file) ray exponent budget w l)
 
   -- the halving search of states
-  abbrev walk_in : (ℕ → ℕ → ℕ) → CastAnswer
+  abbrev walk_in : (ℕ → ℕ → ℕ) → Cast
   walk_in st = walk st budget exponent 0 0
 
   abbrev marks_of_lem : (ℕ → ℕ → ℕ) → List ℕ
@@ -143,15 +141,15 @@ module _ (file : List ℕ) (ray : Ray) (budget : ℕ) (lent : List ℕ) where
   unfolding full_cast marks_left
   cast_promised w l (e, f) = (e, (f, rw (e, f) (cast_demands file ray budget lent)))
 
-  pub cast_refused : {n : ℕ} → check_buffer file ray (2 ^ exponent) (length lent) ≡ Refused n → CastPromised (cast.Refused n) lent
+  pub cast_refused : {e : Refusal} → check_buffer file ray (2 ^ exponent) (length lent) ≡ Err e → CastPromised (Err e) lent
   cast_refused e = cast_promised _ lent (marks_refused file ray (2 ^ exponent) lent walk_in marks_of_lem e)
 
-  pub cast_made : {st : ℕ → ℕ → ℕ} (w : CastAnswer) (l : List ℕ) {part : Summary}
+  pub cast_made : {st : ℕ → ℕ → ℕ} (w : Cast) (l : List ℕ) {part : Summary}
       → Agree (2 ^ exponent) st (ray_state (solid_of file) ray (2 ^ exponent))
-      → check_buffer file ray (2 ^ exponent) (length lent) ≡ Accepted part → w ≡ walk st budget exponent 0 0
-      → l ≡ handed (2 ^ exponent) w (span_marks st exponent 0) ++ drop (2 ^ exponent) lent → CastPromised w l
+      → check_buffer file ray (2 ^ exponent) (length lent) ≡ Ok part → w ≡ walk st budget exponent 0 0
+      → l ≡ handed (2 ^ exponent) w (span_marks st exponent 0) ++ drop (2 ^ exponent) lent → CastPromised (Ok w) l
   cast_made w l agree e answer bytes =
-      cast_promised w l (marks_made file ray (2 ^ exponent) lent walk_in marks_of_lem w l
+      cast_promised (Ok w) l (marks_made file ray (2 ^ exponent) lent walk_in marks_of_lem w l
       (walk_within agree budget exponent 0 0 (omega arith)) (marks_within agree exponent 0 (omega arith)) e answer bytes)
 
 -- ---- first hit
@@ -164,16 +162,16 @@ module _ (file : List ℕ) (ray : Ray) (budget : ℕ) where
   hit_promised : (f : HitAnswer) → f ≡ first_hit file ray budget → HitPromised f
   hit_promised f e = (e, rw e (hit_demands file ray budget))
 
-  pub hit_refused : {n : ℕ} → check_ray file ray ≡ Refused n → HitPromised (found.Refused n)
+  pub hit_refused : {e : Refusal} → check_ray file ray ≡ Err e → HitPromised (Err e)
   unfolding check_ray first_hit hit_after
   hit_refused e = let v = answer_refused (first_no (ray_questions file ray)) file e in hit_promised _ (rw v)
 
-  pub hit_made : {st : ℕ → ℕ → ℕ} (f : HitAnswer) {part : Summary} → Agree (2 ^ exponent) st (ray_state (solid_of file) ray (2 ^ exponent))
-      → check_ray file ray ≡ Accepted part → f ≡ hit st budget exponent 0 0 → HitPromised f
+  pub hit_made : {st : ℕ → ℕ → ℕ} (f : FirstHit) {part : Summary} → Agree (2 ^ exponent) st (ray_state (solid_of file) ray (2 ^ exponent))
+      → check_ray file ray ≡ Ok part → f ≡ hit st budget exponent 0 0 → HitPromised (Ok f)
   unfolding check_ray first_hit hit_after
   hit_made f agree e answer =
       let v = answer_accepted (first_no (ray_questions file ray)) file e in
-      hit_promised f (rw v (answer ∙ hit_within agree budget exponent 0 0 (omega arith)))
+      hit_promised (Ok f) (rw v (ap Ok (answer ∙ hit_within agree budget exponent 0 0 (omega arith))))
 
 -- ---- column
 
@@ -186,7 +184,7 @@ module _ (file : List ℕ) (ray : Ray) (lent : List ℕ) where
   column_promised : (w : ColumnAnswer) (l : List ℕ) → w ≡ column_answer file ray (length lent) → l ≡ bits_left file ray lent → ColumnPromised w l
   column_promised w l e f = (e, (f, rw (e, f) (column_demands file ray lent)))
 
-  pub column_refused : {n : ℕ} → check_buffer file ray column_bytes (length lent) ≡ Refused n → ColumnPromised (column.Refused n) lent
+  pub column_refused : {e : Refusal} → check_buffer file ray column_bytes (length lent) ≡ Err e → ColumnPromised (Err e) lent
   unfolding check_buffer column_answer column_after bits_left bits_after
   column_refused e =
       let v = answer_refused (first_no (buffer_questions file ray column_bytes (length lent))) file e in
@@ -195,12 +193,12 @@ module _ (file : List ℕ) (ray : Ray) (lent : List ℕ) where
   pub column_made : {st : ℕ → ℕ → ℕ} (p : ℕ) (l : List ℕ) (bit : ℕ → ℕ) {part : Summary}
       → Agree (2 ^ exponent) st (ray_state (solid_of file) ray (2 ^ exponent))
       → ((t : ℕ) → t < 2 ^ exponent → bit t ≡ bit_of (solid_of file) ray (2 ^ exponent) t)
-      → check_buffer file ray column_bytes (length lent) ≡ Accepted part → p ≡ probe_count st exponent 0
-      → l ≡ packed bit column_bytes ++ drop column_bytes lent → ColumnPromised (column.Complete p) l
+      → check_buffer file ray column_bytes (length lent) ≡ Ok part → p ≡ probe_count st exponent 0
+      → l ≡ packed bit column_bytes ++ drop column_bytes lent → ColumnPromised (Ok p) l
   unfolding check_buffer column_answer column_after bits_left bits_after
   column_made p l bit agree same e probes bytes =
       let v = answer_accepted (first_no (buffer_questions file ray column_bytes (length lent))) file e in
-      column_promised _ l (rw v (ap column.Complete (probes ∙ count_within agree exponent 0 (omega arith))))
+      column_promised _ l (rw v (ap Ok (probes ∙ count_within agree exponent 0 (omega arith))))
       (rw v (bytes
       ∙ ap (λ (m : List ℕ). m ++ drop column_bytes lent)
       (packed_same bit (bit_of (solid_of file) ray (2 ^ exponent)) column_bytes (λ t h. same t h))))

@@ -14,7 +14,7 @@ use Rattle.exact.proofs.Order.{nn_pos, pos_reflect}
 use Rattle.exact.proofs.Certificates.{◌≦◌by◌, le}
 use Rattle.exact.proofs.Linear.{cross, uncross, cross_lt, uncross_lt, add_parts}
 use Rattle.exact.proofs.Tests.{le_z_true, le_z_false, le-le_z, lt-le_z, cond_by}
-use Rattle.field.specs.declared.Ray.{Ray}
+use Rattle.field.specs.Vectors.{Ray}
 use Rattle.field.specs.declared.Bounds.{Bounds}
 use Rattle.field.specs.Ray.{tick, middle, Ordered, Place, Inside}
 use Rattle.field.specs.Solid.{Solid, Valid}

@@ -2,6 +2,7 @@
 -- states are all one (`place_states`): each tick's mark is the state of those bounds (`place_marks`), each bit goes by their sum (`place_bits`), and
 -- the ray costs 1 probe where they decide, and where they do not as many as there can be, 2 T − 1 (`place_probes`). So each call's answer and bytes
 -- are known from the place's bounds (`place_cast`, `place_hit`, `place_column`); refused, they are refused alike (`place_refused`).
+use Rattle.std.specs.Prelude.{Ok, Err}
 use mathlib.Core.Path.{◌≡◌, refl, ap, ◌∙◌}
 use mathlib.Core.List.{List, [], ◌∷◌, ◌++◌}
 use mathlib.Core.Bool.{cond}
@@ -12,13 +13,13 @@ use borrow.Author.Tests.{le-leb}
 use lib.Dec.{leb, eqb}
 use lib.ListN.{length, drop, replicate, length-replicate}
 use lib.Pow.{pow_pos}
-use Rattle.record.specs.Questions.{first_no, next}
-use Rattle.record.specs.declared.Verdict.{Verdict}
-use Rattle.record.specs.declared.Verdict.TheVariants.{Yes, No}
+use Rattle.record.specs.Questions.{first_no, next, Verdict}
 use Rattle.record.proofs.Questions.{first_no-append}
+use Rattle.record.specs.declared.Refusal.{Refusal}
+use Rattle.record.specs.declared.Refusal.TheVariants as no
 use Rattle.part.specs.File.{iso}
-use Rattle.field.specs.declared.Position.{Position}
-use Rattle.field.specs.declared.Ray.{Ray}
+use Rattle.field.specs.Vectors.{Position}
+use Rattle.field.specs.Vectors.{Ray}
 use Rattle.field.specs.declared.Bounds.{Bounds}
 use Rattle.field.specs.Ray.{tick, ticks, middle, constant_ray, at_start}
 use Rattle.field.specs.Solid.{Solid, Valid, solid_of}
@@ -26,17 +27,14 @@ use Rattle.field.specs.Bounds.{crossing_mark, tree_bounds, state_of, solid_by}
 use Rattle.field.specs.Marks.{span_state, mark_of}
 use Rattle.field.proofs.NoLength.{place_bounds_lem}
 use Rattle.loading.specs.Loading.{ray_questions}
-use Rattle.bounds.specs.declared.BoundsAnswer.TheVariants as place
 use Rattle.bounds.specs.Place.{place_questions, place_answer, place_bounds}
 use Rattle.bounds.proofs.Places.{same_questions}
-use Rattle.halving.specs.declared.CastAnswer.TheVariants as cast
-use Rattle.halving.specs.declared.HitAnswer.TheVariants as found
+use Rattle.halving.specs.declared.Cast.TheVariants as cast
 use Rattle.halving.specs.Halving.{probe_count, walk}
 use Rattle.halving.specs.FirstHit.{finished}
 use Rattle.halving.proofs.Halving as halving
 use Rattle.halving.proofs.Handed.{handed_all}
 use Rattle.halving.proofs.Uniform.{uniform, count_uniform, marks_uniform, hit_uniform}
-use Rattle.cast.specs.declared.ColumnAnswer.TheVariants as column
 use Rattle.cast.specs.Ticks.{exponent, enough, hit_cost, ray_state}
 use Rattle.cast.specs.Questions.{buffer_questions}
 use Rattle.cast.specs.Column.{column_bytes, middle_solid, bit_of}
@@ -60,28 +58,28 @@ module _ (file : List ℕ) (p : Position) where
   ray_asked : first_no (ray_questions file ray) ≡ verdict
   ray_asked = ap first_no (same_questions file p)
 
-  pub place_refused : {n : ℕ} → place_bounds file p ≡ place.Refused n → (budget : ℕ) → first_hit file ray budget ≡ found.Refused n
+  pub place_refused : {e : Refusal} → place_bounds file p ≡ Err e → (budget : ℕ) → first_hit file ray budget ≡ Err e
   unfolding place_bounds place_answer first_hit hit_after
-  place_refused {n} e budget = rw (ray_asked, go verdict e)
+  place_refused {e} h budget = rw (ray_asked, go verdict h)
     where
-      go : (v : Verdict) → place_answer v file p ≡ place.Refused n → v ≡ No n
-      go Yes h = let z : ◌≡◌ {A = ℕ} 0 1 = cc in absurd (omega arith)
-      go (No m) h = cc
+      go : (v : Verdict) → place_answer v file p ≡ Err e → v ≡ Err e
+      go (Ok tt) h = let z : ◌≡◌ {A = ℕ} 0 1 = cc in absurd (omega arith)
+      go (Err m) h = cc
 
-  module _ {b : Bounds} (bounded : place_bounds file p ≡ place.Bounded b) where
+  module _ {b : Bounds} (bounded : place_bounds file p ≡ Ok b) where
     -- the state of the place's bounds
     abbrev s : ℕ
     s = state_of (iso file) b
 
-    accepted : (verdict ≡ Yes) × (tree_bounds solid ray at_start ≡ b)
+    accepted : (verdict ≡ Ok tt) × (tree_bounds solid ray at_start ≡ b)
     unfolding place_bounds place_answer
     accepted = go verdict bounded
       where
-        go : (v : Verdict) → place_answer v file p ≡ place.Bounded b → (v ≡ Yes) × (tree_bounds solid ray at_start ≡ b)
-        go Yes h = (refl, cc)
-        go (No m) h = let z : ◌≡◌ {A = ℕ} 0 1 = cc in absurd (omega arith)
+        go : (v : Verdict) → place_answer v file p ≡ Ok b → (v ≡ Ok tt) × (tree_bounds solid ray at_start ≡ b)
+        go (Ok tt) h = (refl, cc)
+        go (Err m) h = let z : ◌≡◌ {A = ℕ} 0 1 = cc in absurd (omega arith)
 
-    pub ray_accepted : first_no (ray_questions file ray) ≡ Yes
+    pub ray_accepted : first_no (ray_questions file ray) ≡ Ok tt
     ray_accepted = ray_asked ∙ accepted.0
 
     valid : Valid solid
@@ -109,17 +107,17 @@ module _ (file : List ℕ) (p : Position) where
     -- ---- the calls
 
     -- with room enough, a call that is lent a buffer is accepted
-    pub buffer_accepted : (need room : ℕ) → need ≤ room → first_no (buffer_questions file ray need room) ≡ Yes
+    pub buffer_accepted : (need room : ℕ) → need ≤ room → first_no (buffer_questions file ray need room) ≡ Ok tt
     unfolding buffer_questions first_no next
     buffer_accepted need room h =
-        first_no-append (ray_questions file ray) ((14, leb need room) ∷ []) ∙ rw (ray_accepted, le-leb need room h)
+        first_no-append (ray_questions file ray) ((no.Buffer, leb need room) ∷ []) ∙ rw (ray_accepted, le-leb need room h)
 
     -- the probes of a full cast and of a column
     abbrev probes : ℕ
     probes = cond (eqb s crossing_mark) (enough (2 ^ exponent)) 1
 
     pub place_cast : (budget : ℕ) (lent : List ℕ) → probes ≤ budget → 2 ^ exponent ≤ length lent
-        → (full_cast file ray budget (length lent) ≡ cast.Complete probes)
+        → (full_cast file ray budget (length lent) ≡ Ok (cast.Complete probes))
         × (marks_left file ray budget lent ≡ replicate (2 ^ exponent) s ++ drop (2 ^ exponent) lent)
     unfolding full_cast marks_left cast_after marks_after
     place_cast budget lent few room =
@@ -135,17 +133,17 @@ module _ (file : List ℕ) (p : Position) where
 
     -- clear if it is empty, otherwise a hit at tick 0
     pub place_hit : (budget : ℕ) → hit_cost exponent 0 ≤ budget
-        → first_hit file ray budget ≡ finished s 0 (cond (eqb s crossing_mark) (hit_cost exponent 0) 1)
+        → first_hit file ray budget ≡ Ok (finished s 0 (cond (eqb s crossing_mark) (hit_cost exponent 0) 1))
     unfolding first_hit hit_after
-    place_hit budget few = rw (ray_accepted, place_states (pow_pos exponent)) (hit_uniform s exponent budget (omega arith))
+    place_hit budget few = rw (ray_accepted, place_states (pow_pos exponent)) (ap Ok (hit_uniform s exponent budget (omega arith)))
 
     -- each byte has the bit eight times
     pub place_column : (lent : List ℕ) → column_bytes ≤ length lent
-        → (column_answer file ray (length lent) ≡ column.Complete probes)
+        → (column_answer file ray (length lent) ≡ Ok probes)
         × (bits_left file ray lent ≡ replicate column_bytes (255 * cond (solid_by (iso file) b) 1 0) ++ drop column_bytes lent)
     unfolding column_answer column_after bits_left bits_after
     place_column lent room =
         let bit : ℕ = cond (solid_by (iso file) b) 1 0 in
         let bits = packed_all (bit_of solid ray (2 ^ exponent)) bit column_bytes (λ t h. place_bits (pow_pos exponent) t) in
         rw (buffer_accepted column_bytes (length lent) room)
-        (ap column.Complete (place_probes exponent), ap (λ (l : List ℕ). l ++ drop column_bytes lent) bits)
+        (ap Ok (place_probes exponent), ap (λ (l : List ℕ). l ++ drop column_bytes lent) bits)

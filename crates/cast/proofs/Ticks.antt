@@ -7,7 +7,7 @@ use native.Mathlib.Nat.{zero-add}
 use native.Mathlib.Omega.{arith}
 use lib.ListN.{get_or}
 use lib.Pow.{pow_pos}
-use Rattle.field.specs.declared.Ray.{Ray}
+use Rattle.field.specs.Vectors.{Ray}
 use Rattle.field.specs.Ray.{tick, ticks, Ordered}
 use Rattle.field.specs.Solid.{Solid, Valid}
 use Rattle.field.specs.Bounds.{tree_bounds}

@@ -1,7 +1,10 @@
 -- A column (document 01, "Calls"; document 02, P6): "bit t mod 8 (lowest is 0) of byte t/8 (rounded down) is 1 if tick t is" solid, "else 0". Inside
 -- it is, empty it is not, and "A crossing tick is solid if the low and high bounds at its exact middle add up to at least 2 × iso × 2³²."
 use Rattle.std.specs.Prelude.{ℕ, zero, suc, ◌+◌, ◌*◌, ◌^◌, ◌<◌, ◌≡◌, List, [], ◌∷◌, ◌++◌, Bool, cond, ◌&&◌, ◌||◌, eqb, get_or, ℤ}
-use Rattle.field.specs.declared.Ray.{Ray}
+use Rattle.std.specs.Prelude.{Result, Ok, Err}
+use Rattle.record.specs.Questions.{number}
+use Rattle.record.specs.declared.Refusal.{Refusal}
+use Rattle.field.specs.Vectors.{Ray}
 use Rattle.field.specs.Ray.{middle}
 use Rattle.field.specs.Solid.{Solid}
 use Rattle.field.specs.Bounds.{empty_mark, crossing_mark, inside_mark, tree_bounds, solid_by}
@@ -9,8 +12,6 @@ use Rattle.field.specs.Marks.{mark_of}
 use Rattle.bounds.specs.Probe.{prepared_bounds}
 use Rattle.halving.specs.declared.Search.{Search}
 use Rattle.halving.specs.Halving.{probe_count, span_marks}
-use Rattle.cast.specs.declared.ColumnAnswer.{ColumnAnswer}
-use Rattle.cast.specs.declared.ColumnAnswer.TheVariants.{Refused, Complete}
 use Rattle.cast.specs.declared.ByteCast.{ByteCast}
 
 -- 128 bytes for 1,024 ticks
@@ -45,15 +46,19 @@ packed bit (suc n) = packed bit n ++ from_bits bit (8 * n) 8 ∷ []
 
 -- ---- its answer
 
+-- the probes, or the refusal
+abbrev pub ColumnAnswer : Type 0
+ColumnAnswer = Result ℕ Refusal
+
 -- document 01's number for each case of an answer: "the refusal number or 65,536 + probes"
 unfoldable pub column_number : ColumnAnswer → ℕ
-column_number (Refused number) = number
-column_number (Complete probes) = 65536 + probes
+column_number (Err refusal) = number refusal
+column_number (Ok probes) = 65536 + probes
 
 -- how many of n ticks were looked at: none if it is refused, otherwise all
 unfoldable pub column_looked_at : ℕ → ColumnAnswer → ℕ
-column_looked_at n (Refused number) = 0
-column_looked_at n (Complete probes) = n
+column_looked_at n (Err refusal) = 0
+column_looked_at n (Ok probes) = n
 
 -- ---- for the inner functions: from the prepared numbers, whether the middle of tick t is solid, and its bit by the ticks' marks
 

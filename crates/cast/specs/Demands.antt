@@ -1,23 +1,22 @@
 -- What the casting calls promise beside their equations (demands 2 and 3; document 02, P6 and P7), of a solid and a ray. What speaks of marks alone
 -- holds for any number T of ticks; what speaks of the halvings, for 2^k.
-use Rattle.std.specs.Prelude.{◌≡◌, ◌⊎◌, List, ℕ, ◌+◌, ◌*◌, ◌/◌, ◌%◌, ◌^◌, ◌≤◌, ◌<◌, get_or, pos}
+use Rattle.std.specs.Prelude.{◌≡◌, ◌⊎◌, List, ℕ, ◌+◌, ◌*◌, ◌/◌, ◌%◌, ◌^◌, ◌≤◌, ◌<◌, get_or, pos, Ok, Err}
 use Rattle.exact.specs.Fraction.{Fraction, ◌over◌, Proper, ◌≼◌, ◌≺◌, plus}
-use Rattle.field.specs.declared.Ray.{Ray}
+use Rattle.field.specs.Vectors.{Ray}
 use Rattle.field.specs.Ray.{tick, middle, Place}
 use Rattle.field.specs.Solid.{Solid}
 use Rattle.field.specs.Field.{field_at}
 use Rattle.field.specs.Tolerance.{demanded, rounding}
 use Rattle.field.specs.Bounds.{empty_mark, not_looked_at, tree_bounds, Encloses}
 use Rattle.field.specs.Marks.{mark_of, SoundMark}
-use Rattle.halving.specs.declared.CastAnswer.{CastAnswer}
-use Rattle.halving.specs.declared.CastAnswer.TheVariants as cast
-use Rattle.halving.specs.declared.HitAnswer.{HitAnswer}
-use Rattle.halving.specs.declared.HitAnswer.TheVariants as found
+use Rattle.record.specs.Questions.{number}
+use Rattle.record.specs.declared.Refusal.{Refusal}
+use Rattle.record.specs.declared.Refusal.TheVariants as no
+use Rattle.halving.specs.declared.Cast.TheVariants as cast
+use Rattle.halving.specs.declared.FirstHit.TheVariants as found
 use Rattle.halving.specs.Halving.{cast_looked_at}
-use Rattle.halving.specs.FirstHit.{hit_looked_at}
-use Rattle.cast.specs.declared.ColumnAnswer.{ColumnAnswer}
-use Rattle.cast.specs.declared.ColumnAnswer.TheVariants as column
-use Rattle.cast.specs.Column.{bit_of, column_looked_at}
+use Rattle.halving.specs.Answers.{CastAnswer, HitAnswer, cast_reaches, hit_reaches}
+use Rattle.cast.specs.Column.{bit_of, column_looked_at, ColumnAnswer}
 use Rattle.cast.specs.Ticks.{enough, hit_cost}
 use Rattle.cast.specs.Calls.{ray_probes, ray_walk}
 
@@ -57,10 +56,10 @@ module _ (solid : Solid) (ray : Ray) (T : ℕ) where
 
   -- "the first tick not empty with its mark, or clear, or spent with the tick reached", each tick judged alone
   unfoldable pub AloneHit : HitAnswer → Type 0
-  AloneHit (found.Refused number) = Unit {0}
-  AloneHit (found.Hit tick mark probes) = (tick < T) × (mark_of solid ray T tick ≡ mark) × (1 ≤ mark) × Empty tick
-  AloneHit (found.Clear probes) = Empty T
-  AloneHit (found.Spent tick probes) = (tick < T) × Empty tick
+  AloneHit (Err refusal) = Unit {0}
+  AloneHit (Ok (found.Hit tick mark probes)) = (tick < T) × (mark_of solid ray T tick ≡ mark) × (1 ≤ mark) × Empty tick
+  AloneHit (Ok (found.Clear probes)) = Empty T
+  AloneHit (Ok (found.Spent tick probes)) = (tick < T) × Empty tick
 
   -- tick h is the first that is not empty
   unfoldable pub FirstNotEmpty : ℕ → Type 0
@@ -68,58 +67,60 @@ module _ (solid : Solid) (ray : Ray) (T : ℕ) where
 
   -- the answer, unless it is a refusal, is the hit at tick h, with the tick's mark
   unfoldable pub HitAt : ℕ → HitAnswer → Type 0
-  HitAt h (found.Refused number) = Unit {0}
-  HitAt h (found.Hit tick mark probes) = (tick ≡ h) × (mark ≡ mark_of solid ray T h)
-  HitAt h (found.Clear probes) = ⊥
-  HitAt h (found.Spent tick probes) = ⊥
+  HitAt h (Err refusal) = Unit {0}
+  HitAt h (Ok (found.Hit tick mark probes)) = (tick ≡ h) × (mark ≡ mark_of solid ray T h)
+  HitAt h (Ok (found.Clear probes)) = ⊥
+  HitAt h (Ok (found.Spent tick probes)) = ⊥
 
--- the number of a refusal: of a first hit 1 to 12, of a call that is lent a buffer 14 too, and never 13
-abbrev pub RayRefusal : ℕ → Type 0
-RayRefusal number = (1 ≤ number) × (number ≤ 12)
+-- a refusal: of a first hit 1 to 12, of a call that is lent a buffer 14 too, and never 13
+abbrev pub RayRefusal : Refusal → Type 0
+RayRefusal refusal = (1 ≤ number refusal) × (number refusal ≤ 12)
 
-abbrev pub BufferRefusal : ℕ → Type 0
-BufferRefusal number = RayRefusal number ⊎ (number ≡ 14)
+abbrev pub BufferRefusal : Refusal → Type 0
+BufferRefusal refusal = RayRefusal refusal ⊎ (refusal ≡ no.Buffer)
 
 -- "a full cast is spent exactly when the probe count of the whole ray is more than its budget; the probes it reports are the smaller of the two", and
 -- there is a budget that "is always enough": for a ray of T ticks that takes `count` probes, of at most `most`. Spent, a cast leaves ticks not looked
 -- at.
 unfoldable pub Counted : (T count most budget : ℕ) → CastAnswer → Type 0
-Counted T count most budget (cast.Refused number) = BufferRefusal number
-Counted T count most budget (cast.Complete probes) = (probes ≡ count) × (count ≤ budget) × (count ≤ most)
-Counted T count most budget (cast.Spent tick probes) = (tick < T) × (probes ≡ budget) × (budget < count) × (count ≤ most)
+Counted T count most budget (Err refusal) = BufferRefusal refusal
+Counted T count most budget (Ok (cast.Complete probes)) = (probes ≡ count) × (count ≤ budget) × (count ≤ most)
+Counted T count most budget (Ok (cast.Spent tick probes)) = (tick < T) × (probes ≡ budget) × (budget < count) × (count ≤ most)
 
 -- demands 2 and 3 of a cast that hands over T ticks' marks: of its answer, and of the bytes afterwards in the buffer that was lent
 pub record MarkDemands (solid : Solid) (ray : Ray) (T count most budget : ℕ) (answer : CastAnswer) (after : List ℕ) : Type 0 where
-  pub alone : Alone solid ray T (cast_looked_at T answer) after
+  pub alone : Alone solid ray T (cast_reaches T answer) after
   pub counted : Counted T count most budget answer
-  pub sound : Sound solid ray T (cast_looked_at T answer)
+  pub sound : Sound solid ray T (cast_reaches T answer)
 
 -- P7: "a first hit found at tick h costs at most" `hit_cost`, of 2^k ticks; and a search is spent only at a tick whose cost is more than its budget
 unfoldable pub PromptHit : (k budget : ℕ) → HitAnswer → Type 0
-PromptHit k budget (found.Refused number) = Unit {0}
-PromptHit k budget (found.Hit tick mark probes) = probes ≤ hit_cost k tick
-PromptHit k budget (found.Clear probes) = Unit {0}
-PromptHit k budget (found.Spent tick probes) = budget < hit_cost k tick
+PromptHit k budget (Err refusal) = Unit {0}
+PromptHit k budget (Ok (found.Hit tick mark probes)) = probes ≤ hit_cost k tick
+PromptHit k budget (Ok (found.Clear probes)) = Unit {0}
+PromptHit k budget (Ok (found.Spent tick probes)) = budget < hit_cost k tick
 
 module _ (solid : Solid) (ray : Ray) (k : ℕ) where
   -- a first hit, "always the probes": a clear ray's are the full cast's, a hit's are no more, and a spent search has made its whole budget, which is
   -- less than the full cast's
   unfoldable pub CountedHit : ℕ → HitAnswer → Type 0
-  CountedHit budget (found.Refused number) = RayRefusal number
-  CountedHit budget (found.Hit tick mark probes) = (probes ≤ budget) × (probes ≤ ray_probes solid ray k) × (ray_probes solid ray k ≤ enough (2 ^ k))
-  CountedHit budget (found.Clear probes) =
+  CountedHit budget (Err refusal) = RayRefusal refusal
+  CountedHit budget (Ok (found.Hit tick mark probes)) =
+      (probes ≤ budget) × (probes ≤ ray_probes solid ray k) × (ray_probes solid ray k ≤ enough (2 ^ k))
+  CountedHit budget (Ok (found.Clear probes)) =
       (probes ≡ ray_probes solid ray k) × (ray_probes solid ray k ≤ budget) × (ray_probes solid ray k ≤ enough (2 ^ k))
-  CountedHit budget (found.Spent tick probes) = (probes ≡ budget) × (budget < ray_probes solid ray k) × (ray_probes solid ray k ≤ enough (2 ^ k))
+  CountedHit budget (Ok (found.Spent tick probes)) =
+      (probes ≡ budget) × (budget < ray_probes solid ray k) × (ray_probes solid ray k ≤ enough (2 ^ k))
 
   -- "It probes in the same order and stops as soon as that tick is known": a hit's probes are the least budget with which the full cast looks at its
   -- tick, and a first hit that is clear or spent is a full cast that is complete, or spent at the same tick, with the same probes
   unfoldable pub SameOrder : ℕ → HitAnswer → Type 0
-  SameOrder budget (found.Refused number) = Unit {0}
-  SameOrder budget (found.Hit tick mark probes) =
+  SameOrder budget (Err refusal) = Unit {0}
+  SameOrder budget (Ok (found.Hit tick mark probes)) =
       (b : ℕ)
       → (probes ≤ b → tick < cast_looked_at (2 ^ k) (ray_walk solid ray k b)) × (b < probes → cast_looked_at (2 ^ k) (ray_walk solid ray k b) ≤ tick)
-  SameOrder budget (found.Clear probes) = ray_walk solid ray k budget ≡ cast.Complete probes
-  SameOrder budget (found.Spent tick probes) = ray_walk solid ray k budget ≡ cast.Spent tick probes
+  SameOrder budget (Ok (found.Clear probes)) = ray_walk solid ray k budget ≡ cast.Complete probes
+  SameOrder budget (Ok (found.Spent tick probes)) = ray_walk solid ray k budget ≡ cast.Spent tick probes
 
   -- P7: "with a budget of that size or more such a hit is never answered as spent"
   unfoldable pub FoundHit : ℕ → HitAnswer → Type 0
@@ -127,8 +128,8 @@ module _ (solid : Solid) (ray : Ray) (k : ℕ) where
 
   -- a column: "the probes, which are the full cast's"
   unfoldable pub CountedColumn : ColumnAnswer → Type 0
-  CountedColumn (column.Refused number) = BufferRefusal number
-  CountedColumn (column.Complete probes) = (probes ≡ ray_probes solid ray k) × (ray_probes solid ray k ≤ enough (2 ^ k))
+  CountedColumn (Err refusal) = BufferRefusal refusal
+  CountedColumn (Ok probes) = (probes ≡ ray_probes solid ray k) × (ray_probes solid ray k ≤ enough (2 ^ k))
 
   -- ---- demands 2 and 3 of a call's answer, and of the bytes afterwards in the buffer that was lent
 
@@ -142,7 +143,7 @@ module _ (solid : Solid) (ray : Ray) (k : ℕ) where
     pub order : SameOrder budget answer
     pub prompt : PromptHit k budget answer
     pub in_time : FoundHit budget answer
-    pub sound : Sound solid ray (2 ^ k) (hit_looked_at (2 ^ k) answer)
+    pub sound : Sound solid ray (2 ^ k) (hit_reaches (2 ^ k) answer)
 
   pub record ColumnDemands (answer : ColumnAnswer) (after : List ℕ) : Type 0 where
     pub alone : AloneBits solid ray (2 ^ k) (column_looked_at (2 ^ k) answer) after

@@ -1,7 +1,7 @@
 -- The ticks of a ray: the state of a span of them, for any number T of ticks; the number that document 01's calls cut a ray into; and how many
 -- probes are enough.
 use Rattle.std.specs.Prelude.{ℕ, ◌+◌, ◌*◌, ◌-◌}
-use Rattle.field.specs.declared.Ray.{Ray}
+use Rattle.field.specs.Vectors.{Ray}
 use Rattle.field.specs.Ray.{ticks}
 use Rattle.field.specs.Solid.{Solid}
 use Rattle.field.specs.Marks.{span_state}

@@ -6,20 +6,22 @@
 ghost use Rattle.std.specs.Prelude.{◌≡◌, ◌++◌, ◌+◌, ◌*◌, ◌/◌, ◌^◌, ◌≤◌, ◌<◌, length, drop};
 ghost use Rattle.std.proofs.lemmas.List.Edits.{sets};
 ghost use Rattle.field.specs.Solid.{solid_of};
+ghost use Rattle.field.specs.Bounds.{state_mark};
 ghost use Rattle.loading.specs.Loading.{loaded_ray};
 ghost use Rattle.halving.specs.Halving.{probe_count, span_marks};
 ghost use Rattle.halving.specs.Search.{Searchable, Halvable, state_in};
 ghost use Rattle.cast.specs.Ticks.{exponent};
 ghost use Rattle.cast.specs.Column.{column_bytes, middle_in, tick_bit, bit_in, packed, span_bit, SpanBits};
-ghost use Rattle.cast.specs.Questions.{also_asked, check_buffer};
+ghost use Rattle.cast.specs.Questions.{check_buffer};
 ghost use Rattle.cast.specs.Calls.{full_cast, marks_left, first_hit, column_answer, bits_left};
 ghost use Rattle.cast.specs.Demands.{CastDemands, HitDemands, ColumnDemands};
 
-use bounds::{HELD, span_solid};
-use field::{CROSSING, INSIDE, Ray, Span};
-use halving::{CastAnswer, HitAnswer, Search, cast_ticks, fill, hit_ticks, probe};
+use bounds::{HELD, NO_BOUNDS, span_solid};
+use field::{Bounds, Ray, Span, State};
+use halving::{Cast, FirstHit, Search, cast_ticks, fill, hit_ticks, probe};
 use loading::{PREPARED, load_ray};
-use part::Checked;
+use part::Summary;
+use record::{Refusal, ask};
 
 // "A ray […] is cut into 1,024 equal ticks": two to the power LEVEL.
 pub const TICKS: usize = 1024;
@@ -34,13 +36,6 @@ pub const COLUMN: usize = 128;
 
 const COLUMN_LEVEL: usize = 7;
 
-// What a column answers: the refusal number, or the probes.
-#[derive(Clone, Copy)]
-pub enum ColumnAnswer {
-    Refused(u32),
-    Complete { probes: u32 },
-}
-
 // What a cast of at most eight ticks gives: their bits, the first one's lowest, and the probes.
 #[derive(Clone, Copy)]
 struct ByteCast {
@@ -50,19 +45,6 @@ struct ByteCast {
 
 // ---- the questions
 
-// An answer, and one more question after it.
-fn also_ask(answer: Checked, number: u32, yes: bool) -> Checked
-    ensures { result ≡ also_asked answer number yes }
-{
-    if yes {
-        return answer;
-    }
-    match answer {
-        Checked::Refused(first) => Checked::Refused(first),
-        Checked::Accepted(_) => Checked::Refused(number),
-    }
-}
-
 // Questions 1 to 12, then 14, with the prepared numbers that questions 1 to 12 leave.
 pub fn load_buffer(
     file: &[u8],
@@ -70,18 +52,19 @@ pub fn load_buffer(
     need: usize,
     room: usize,
     out: &mut [i64; PREPARED],
-) -> Checked
+) -> Result<Summary, Refusal>
     ensures answer { result ≡ check_buffer file.now ray need room }
     ensures numbers { out.new ≡ loaded_ray file.now ray out.old }
 {
-    let answer = load_ray(file, ray, out);
-    also_ask(answer, 14, need <= room)
+    let part = load_ray(file, ray, out)?;
+    ask(Refusal::Buffer, need <= room)?;
+    Ok(part)
 }
 
 // ---- a column's bits
 
 // Whether the middle of tick t is solid. Here and below, the lent array `held` is working space.
-fn middle_solid(held: &mut [i64; HELD], prepared: &[i64], s: Search, t: usize) -> bool
+fn middle_solid(held: &mut [Bounds; HELD], prepared: &[i64], s: Search, t: usize) -> bool
     requires searchable { Searchable prepared.now s }
     requires t_lt_ticks { (t < s.ticks) × (s.ticks ≤ 2048) }
     ensures { result ≡ middle_in prepared.now s t }
@@ -95,19 +78,17 @@ fn middle_solid(held: &mut [i64; HELD], prepared: &[i64], s: Search, t: usize) -
     span_solid(held, prepared, s.part, span)
 }
 
-// Eight bits, each that of tick t with this mark: 1 if it is inside, or crossing and its middle is solid.
-fn tick_byte(held: &mut [i64; HELD], prepared: &[i64], s: Search, t: usize, mark: u8) -> u8
+// Eight bits, each that of tick t in this state: 1 if it is inside, or crossing and its middle is solid.
+#[tactic(auto, unfolding(crate::specs::Column::tick_bit))]
+fn tick_byte(held: &mut [Bounds; HELD], prepared: &[i64], s: Search, t: usize, state: State) -> u8
     requires searchable { Searchable prepared.now s }
     requires t_lt_ticks { (t < s.ticks) × (s.ticks ≤ 2048) }
-    ensures { result ≡ 255 * tick_bit mark (middle_in prepared.now s t) }
+    ensures { result ≡ 255 * tick_bit (state_mark state) (middle_in prepared.now s t) }
 {
-    if mark == INSIDE {
-        return 255;
-    }
-    if mark == CROSSING && middle_solid(held, prepared, s, t) {
-        255
-    } else {
-        0
+    match state {
+        State::Inside => 255,
+        State::Crossing if middle_solid(held, prepared, s, t) => 255,
+        _ => 0,
     }
 }
 
@@ -121,7 +102,7 @@ fn joined(low: u8, high: u8, n: usize) -> u8
 
 // Casts the len ticks from tick first on, two to the power level and at most eight.
 fn byte_span(
-    held: &mut [i64; HELD],
+    held: &mut [Bounds; HELD],
     prepared: &[i64],
     s: Search,
     first: usize,
@@ -133,26 +114,27 @@ fn byte_span(
     requires level_bound { (level ≤ 3) × (s.ticks ≤ 2048) }
     ensures { SpanBits (state_in prepared.now s) (middle_in prepared.now s) level first len result }
 {
-    let state = probe(held, prepared, s, first, len);
-    if state != CROSSING || level == 0 {
-        return ByteCast {
+    match probe(held, prepared, s, first, len) {
+        State::Crossing if level > 0 => {
+            let half = len / 2;
+            let left = byte_span(held, prepared, s, first, half, level - 1);
+            let right = byte_span(held, prepared, s, first + half, half, level - 1);
+            ByteCast {
+                bits: joined(left.bits, right.bits, half),
+                probes: 1 + left.probes + right.probes,
+            }
+        }
+        state => ByteCast {
             bits: tick_byte(held, prepared, s, first, state) >> (8 - len),
             probes: 1,
-        };
-    }
-    let half = len / 2;
-    let left = byte_span(held, prepared, s, first, half, level - 1);
-    let right = byte_span(held, prepared, s, first + half, half, level - 1);
-    ByteCast {
-        bits: joined(left.bits, right.bits, half),
-        probes: 1 + left.probes + right.probes,
+        },
     }
 }
 
 // Casts the ticks of the len bytes from byte first on, two to the power level; answers the probes.
 fn column_span(
     out: &mut [u8],
-    held: &mut [i64; HELD],
+    held: &mut [Bounds; HELD],
     prepared: &[i64],
     s: Search,
     first: usize,
@@ -172,19 +154,22 @@ fn column_span(
         out[first] = byte.bits;
         return byte.probes;
     }
-    let state = probe(held, prepared, s, tick, 8 * len);
-    if state != CROSSING {
-        fill(out, first, len, tick_byte(held, prepared, s, tick, state));
-        return 1;
+    match probe(held, prepared, s, tick, 8 * len) {
+        State::Crossing => {
+            let half = len / 2;
+            let left = column_span(out, held, prepared, s, first, half, level - 1);
+            let right = column_span(out, held, prepared, s, first + half, half, level - 1);
+            1 + left + right
+        }
+        state => {
+            fill(out, first, len, tick_byte(held, prepared, s, tick, state));
+            1
+        }
     }
-    let half = len / 2;
-    let left = column_span(out, held, prepared, s, first, half, level - 1);
-    let right = column_span(out, held, prepared, s, first + half, half, level - 1);
-    1 + left + right
 }
 
 // A whole ray's column; answers the probes.
-fn cast_column(out: &mut [u8], held: &mut [i64; HELD], prepared: &[i64], s: Search) -> u32
+fn cast_column(out: &mut [u8], held: &mut [Bounds; HELD], prepared: &[i64], s: Search) -> u32
     requires searchable { Searchable prepared.now s }
     requires ticks_value { s.ticks ≡ 2 ^ exponent }
     requires column_bytes_in_bounds { column_bytes ≤ length out.old }
@@ -199,68 +184,51 @@ fn cast_column(out: &mut [u8], held: &mut [i64; HELD], prepared: &[i64], s: Sear
 // ---- the calls
 
 // Full cast: every tick's mark, as far as the budget goes.
-pub fn full_cast(file: &[u8], ray: Ray, budget: u32, marks: &mut [u8]) -> CastAnswer
+pub fn full_cast(file: &[u8], ray: Ray, budget: u32, marks: &mut [u8]) -> Result<Cast, Refusal>
     ensures answer { result ≡ full_cast file.now ray budget (length marks.old) }
     ensures bytes { marks.new ≡ marks_left file.now ray budget marks.old }
     ensures demands { CastDemands (solid_of file.now) ray exponent budget result marks.new }
 {
     let mut prepared = [0i64; PREPARED];
-    let mut held = [0i64; HELD];
-    let checked = load_buffer(file, ray, TICKS, marks.len(), &mut prepared);
-    match checked {
-        Checked::Refused(number) => CastAnswer::Refused(number),
-        Checked::Accepted(part) => {
-            let s = Search {
-                part: part,
-                ticks: TICKS,
-                budget: budget,
-            };
-            cast_ticks(marks, &mut held, &prepared[..], s, LEVEL)
-        }
-    }
+    let mut held = [NO_BOUNDS; HELD];
+    let part = load_buffer(file, ray, TICKS, marks.len(), &mut prepared)?;
+    let s = Search {
+        part,
+        ticks: TICKS,
+        budget,
+    };
+    Ok(cast_ticks(marks, &mut held, &prepared[..], s, LEVEL))
 }
 
 // First hit: the first tick that is not empty.
-pub fn first_hit(file: &[u8], ray: Ray, budget: u32) -> HitAnswer
+pub fn first_hit(file: &[u8], ray: Ray, budget: u32) -> Result<FirstHit, Refusal>
     ensures answer { result ≡ first_hit file.now ray budget }
     ensures demands { HitDemands (solid_of file.now) ray exponent budget result }
 {
     let mut prepared = [0i64; PREPARED];
-    let mut held = [0i64; HELD];
-    let checked = load_ray(file, ray, &mut prepared);
-    match checked {
-        Checked::Refused(number) => HitAnswer::Refused(number),
-        Checked::Accepted(part) => {
-            let s = Search {
-                part: part,
-                ticks: TICKS,
-                budget: budget,
-            };
-            hit_ticks(&mut held, &prepared[..], s, LEVEL)
-        }
-    }
+    let mut held = [NO_BOUNDS; HELD];
+    let part = load_ray(file, ray, &mut prepared)?;
+    let s = Search {
+        part,
+        ticks: TICKS,
+        budget,
+    };
+    Ok(hit_ticks(&mut held, &prepared[..], s, LEVEL))
 }
 
-// Column: a bit for each tick, 1 if it is inside, or crossing and its middle is solid.
-pub fn column(file: &[u8], ray: Ray, bits: &mut [u8]) -> ColumnAnswer
+// Column: a bit for each tick, 1 if it is inside, or crossing and its middle is solid; and the probes.
+pub fn column(file: &[u8], ray: Ray, bits: &mut [u8]) -> Result<u32, Refusal>
     ensures answer { result ≡ column_answer file.now ray (length bits.old) }
     ensures bytes { bits.new ≡ bits_left file.now ray bits.old }
     ensures demands { ColumnDemands (solid_of file.now) ray exponent result bits.new }
 {
     let mut prepared = [0i64; PREPARED];
-    let mut held = [0i64; HELD];
-    let checked = load_buffer(file, ray, COLUMN, bits.len(), &mut prepared);
-    match checked {
-        Checked::Refused(number) => ColumnAnswer::Refused(number),
-        Checked::Accepted(part) => {
-            let s = Search {
-                part: part,
-                ticks: TICKS,
-                budget: ENOUGH,
-            };
-            ColumnAnswer::Complete {
-                probes: cast_column(bits, &mut held, &prepared[..], s),
-            }
-        }
-    }
+    let mut held = [NO_BOUNDS; HELD];
+    let part = load_buffer(file, ray, COLUMN, bits.len(), &mut prepared)?;
+    let s = Search {
+        part,
+        ticks: TICKS,
+        budget: ENOUGH,
+    };
+    Ok(cast_column(bits, &mut held, &prepared[..], s))
 }

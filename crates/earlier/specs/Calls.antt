@@ -2,18 +2,18 @@
 -- questions. But for their questions they are made as the calls are (`cast`, `march`, `view`).
 use Rattle.std.specs.Prelude.{List, [], ◌∷◌, ◌++◌, Bool, not, ◌&&◌, ℕ, ◌^◌, leb, length}
 use Rattle.exact.specs.Range.{eq_ℤ}
-use Rattle.record.specs.Questions.{Question, first_no}
-use Rattle.record.specs.declared.Verdict.{Verdict}
+use Rattle.record.specs.Questions.{Question, first_no, Verdict}
+use Rattle.record.specs.declared.Refusal.TheVariants as no
 use Rattle.part.specs.File.{file_questions}
-use Rattle.field.specs.declared.Position.{Position}
-use Rattle.field.specs.declared.Ray.{Ray}
+use Rattle.field.specs.Vectors.{Position}
+use Rattle.field.specs.Vectors.{Ray}
 use Rattle.field.specs.Solid.{solid_of}
 use Rattle.loading.specs.Loading.{ray_questions}
 use Rattle.cast.specs.Ticks.{exponent}
 use Rattle.cast.specs.Column.{column_bytes}
 use Rattle.cast.specs.Calls.{ray_marks, ray_walk, cast_after, marks_after, hit_after, column_after, bits_after}
 use Rattle.march.specs.Calls.{marched_marks, ray_march}
-use Rattle.view.specs.declared.ViewRay.{ViewRay}
+use Rattle.view.specs.Ray.{ViewRay}
 use Rattle.view.specs.declared.ViewAnswer.{ViewAnswer}
 use Rattle.view.specs.Ray.{steps_ray}
 use Rattle.view.specs.Call.{float_questions, view_of}
@@ -39,14 +39,14 @@ ray_of (call.MarchingCast ray budget) = ray
 
 -- 14, of a buffer of so many bytes: "Has the buffer at least 1,024 bytes for marks, 128 for a column?"
 unfoldable pub room_questions : Call → ℕ → List Question
-room_questions (call.FullCast ray budget) room = (14, leb (2 ^ exponent) room) ∷ []
+room_questions (call.FullCast ray budget) room = (no.Buffer, leb (2 ^ exponent) room) ∷ []
 room_questions (call.FirstHit ray budget) room = []
-room_questions (call.Column ray) room = (14, leb column_bytes room) ∷ []
-room_questions (call.MarchingCast ray budget) room = (14, leb (2 ^ exponent) room) ∷ []
+room_questions (call.Column ray) room = (no.Buffer, leb column_bytes room) ∷ []
+room_questions (call.MarchingCast ray budget) room = (no.Buffer, leb (2 ^ exponent) room) ∷ []
 
 -- "A first hit asks 1 to 13, a full cast or column 1 to 14."
 abbrev pub earlier_questions : List ℕ → Call → ℕ → List Question
-earlier_questions file c room = ray_questions file (ray_of c) ++ (13, ends_differ (ray_of c)) ∷ room_questions c room
+earlier_questions file c room = ray_questions file (ray_of c) ++ (no.Ends, ends_differ (ray_of c)) ∷ room_questions c room
 
 -- the answer by a verdict on a call's questions, and the lent buffer afterwards
 unfoldable pub answer_by : Verdict → List ℕ → Call → Answer
@@ -74,7 +74,7 @@ earlier_bytes file c lent = bytes_by (first_no (earlier_questions file c (length
 
 -- "The viewer's call asks 1 to 11, then 15, then 13."
 abbrev pub earlier_view_questions : List ℕ → ViewRay → List Question
-earlier_view_questions file ray = (file_questions file ++ float_questions ray) ++ (13, ends_differ (steps_ray ray)) ∷ []
+earlier_view_questions file ray = (file_questions file ++ float_questions ray) ++ (no.Ends, ends_differ (steps_ray ray)) ∷ []
 
 abbrev pub earlier_view : List ℕ → ViewRay → ℕ → ViewAnswer
 earlier_view file ray budget =

@@ -1,13 +1,15 @@
 -- Runs of stores into a list (`sets` of `lib.Seq`), one after the other: a buffer that is filled piece by piece holds the pieces joined.
 -- `sets-append u v l i : sets (sets l i u) (i + length u) v ≡ sets l i (u ++ v)`.
 use mathlib.Core.Path.{◌≡◌, refl, sym, ap, ◌∙◌}
-use mathlib.Core.List.{List, [], ◌∷◌, ◌++◌}
+use mathlib.Core.List.{List, [], ◌∷◌, ◌++◌, append_assoc}
 use Prim.Native.Nat.{ℕ, suc, ◌+◌, ◌≤◌}
 use native.Mathlib.Nat.{add-zero, zero-add, add-suc, suc-add}
-use native.Mathlib.Numerals.{add-one}
 use native.Mathlib.Omega.{arith}
-use lib.ListN.{length, set, drop, replicate, length-replicate, replicate-append-replicate}
+use lib.ListN.{length, set, take, drop, replicate, length-replicate, replicate-append-replicate}
 use lib.Seq.{sets, sets-eq}
+use borrow.Rule.Slice.PartMut.{put_mid}
+use Rattle.std.proofs.lemmas.List.Edits.{paste_all}
+use Rattle.std.proofs.lemmas.Slice.{put_mid-paste}
 
 module _ {A : Type 0} where
   -- one run after another
@@ -17,22 +19,20 @@ module _ {A : Type 0} where
       ap (λ (n : ℕ). sets (sets (set l i a) (suc i) u) n v) (add-suc i (length u) ∙ sym (suc-add i (length u)))
       ∙ sets-append u v (set l i a) (suc i)
 
+  -- the same of runs and lists that are known by equations
+  pub sets-then : (u v l : List A) (i : ℕ) {j : ℕ} {w m r : List A} → m ≡ sets l i u → r ≡ sets m j w → w ≡ v → j ≡ i + length u
+      → r ≡ sets l i (u ++ v)
+  sets-then u v l i p q e f = q ∙ (λ k. sets (p k) (f k) (e k)) ∙ sets-append u v l i
+
   -- one store after a run of n
   pub sets_more : (u l : List A) (i n : ℕ) (a : A) → length u ≡ n → set (sets l i u) (i + n) a ≡ sets l i (u ++ a ∷ [])
   sets_more u l i n a e = ap (λ (k : ℕ). set (sets l i u) (i + k) a) (sym e) ∙ sets-append u (a ∷ []) l i
 
-  -- stores one by one, as code has them: u at i + k, i + (k + 1), ..
-  abbrev pub stores : List A → ℕ → ℕ → List A → List A
-  stores l i k [] = l
-  stores l i k (a ∷ u) = stores (set l (i + k) a) i (suc k) u
-
-  run : (u l : List A) (i k : ℕ) → stores l i k u ≡ sets l (i + k) u
-  run [] l i k = refl
-  run (a ∷ u) l i k = run u (set l (i + k) a) i (suc k) ∙ ap (λ (n : ℕ). sets (set l (i + k) a) n u) (add-suc i k)
-
-  -- they are one run: `sets-stores a (b ∷ c ∷ []) l i : set (set (set l i a) (i + 1) b) (i + 2) c ≡ sets l i (a ∷ b ∷ c ∷ [])`
-  pub sets-stores : (a : A) (u l : List A) (i : ℕ) → stores (set l i a) i 1 u ≡ sets l i (a ∷ u)
-  sets-stores a u l i = run u (set l i a) i 1 ∙ ap (λ (n : ℕ). sets (set l i a) n u) (add-one i)
+  -- the part that `l[i..i + k].copy_from_slice(..)` replaces
+  pub sets-part : (u l ys : List A) (i k : ℕ) → ys ≡ u → k ≡ length u → i + length u ≤ length l → put_mid i k l ys ≡ sets l i u
+  sets-part u l ys i k e f h =
+      put_mid-paste i k l ys u (length u) e (sym f) refl ∙ paste_all l i u (length u) refl
+      ∙ sym (append_assoc (take i l) u (drop (i + length u) l)) ∙ sym (sets-eq u l i h)
 
   -- one more of equal elements
   pub sets-replicate : (l : List A) (i n : ℕ) (a : A) → set (sets l i (replicate n a)) (i + n) a ≡ sets l i (replicate (n + 1) a)

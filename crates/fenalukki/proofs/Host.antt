@@ -5,32 +5,30 @@ use mathlib.Core.List.{List}
 use Prim.Native.Nat.{ℕ, ◌^◌}
 use lib.IntN.{ℤ}
 use lib.ListN.{length}
-use Rattle.part.specs.declared.Checked.{Checked}
+use Rattle.part.specs.File.{Checked}
 use Rattle.part.specs.File.{check_file, Says}
-use Rattle.field.specs.declared.Position.{Position}
-use Rattle.field.specs.declared.Ray.{Ray}
-use Rattle.bounds.specs.declared.BoundsAnswer.{BoundsAnswer}
+use Rattle.field.specs.Vectors.{Position}
+use Rattle.field.specs.Vectors.{Ray}
+use Rattle.bounds.specs.Place.{BoundsAnswer}
 use Rattle.bounds.specs.Place.{place_bounds, PlaceSays}
-use Rattle.halving.specs.declared.CastAnswer.{CastAnswer}
-use Rattle.halving.specs.declared.HitAnswer.{HitAnswer}
-use Rattle.cast.specs.declared.ColumnAnswer.{ColumnAnswer}
-use Rattle.halving.specs.Numbers.{cast_number, hit_number}
+use Rattle.cast.specs.Column.{ColumnAnswer}
+use Rattle.halving.specs.Answers.{CastAnswer, HitAnswer, cast_number, hit_number}
 use Rattle.cast.specs.Column.{column_number}
 use Rattle.cast.specs.Ticks.{exponent}
 use Rattle.cast.specs.Calls.{full_cast, first_hit, column_answer}
 use Rattle.cast.proofs.Calls.{CastPromised, HitPromised, ColumnPromised}
 use Rattle.march.specs.Calls.{marching_cast}
 use Rattle.march.proofs.Calls.{MarchPromised}
-use Rattle.view.specs.declared.ViewRay.{ViewRay}
+use Rattle.view.specs.Ray.{ViewRay}
 use Rattle.view.specs.Call.{view_of, viewer_ticks, viewer_first_hit}
 use Rattle.view.specs.Demands.{ViewDemands}
-use Rattle.tally.specs.declared.Tally.{Tally}
-use Rattle.tally.specs.declared.Saved.{Saved}
+use Rattle.tally.specs.Counts.{Tally}
+use Rattle.tally.specs.Saved.{Saved}
 use Rattle.tally.specs.Counts.{cast_tally, hit_tally, column_tally, view_tally}
 use Rattle.tally.specs.Saved.{read_saved, SavedSays}
 use Rattle.tally.proofs.Counts.{view_tally_lem}
 use Rattle.nodes.specs.Numbers.{loaded}
-use Rattle.writer.specs.declared.Written.{Written}
+use Rattle.writer.specs.Writer.{Written}
 use Rattle.writer.specs.Writer.{write_answer, buffer_left, WriteSays, Returned}
 use Rattle.numbers.specs.Numbers.{check_number, bounds_number, bounds_left, write_number, lent_after, saved_number, saved_left}
 use Rattle.numbers.proofs.Numbers.{check_told, bounds_told, write_told, saved_told}

@@ -2,18 +2,18 @@
 -- call promises of the answer that the number stands for, demands 2 and 3 included.
 use Rattle.std.specs.Prelude.{◌≡◌, List, ℕ, length, ℤ}
 use Rattle.part.specs.File.{check_file, Says}
-use Rattle.field.specs.declared.Position.{Position}
-use Rattle.field.specs.declared.Ray.{Ray}
+use Rattle.field.specs.Vectors.{Position}
+use Rattle.field.specs.Vectors.{Ray}
 use Rattle.field.specs.Solid.{solid_of}
 use Rattle.bounds.specs.Place.{place_bounds, PlaceSays}
 use Rattle.cast.specs.Ticks.{exponent}
 use Rattle.cast.specs.Calls.{full_cast, marks_left, first_hit, column_answer, bits_left}
-use Rattle.halving.specs.Numbers.{cast_number, hit_number}
+use Rattle.halving.specs.Answers.{cast_number, hit_number}
 use Rattle.cast.specs.Column.{column_number}
 use Rattle.cast.specs.Demands.{CastDemands, HitDemands, ColumnDemands}
 use Rattle.march.specs.Calls.{marching_cast, marched_left}
 use Rattle.march.specs.Demands.{MarchDemands}
-use Rattle.view.specs.declared.ViewRay.{ViewRay}
+use Rattle.view.specs.Ray.{ViewRay}
 use Rattle.view.specs.Call.{viewer_ticks, viewer_first_hit}
 use Rattle.view.specs.Demands.{ViewDemands}
 use Rattle.nodes.specs.Numbers.{loaded}

@@ -18,10 +18,10 @@ use march::marching_cast;
 use nodes::load;
 use numbers::{
     bounds_number, cast_number, check_number, column_number, count_lent, hit_number, place_at,
-    put_saved, ray_of, saved_number, view_ray_of, write_number,
+    put_saved, ray_of, saved_number, write_number,
 };
 use part::check;
-use tally::{cast_tally, column_tally, hit_tally, read_saved};
+use tally::{Tallied, read_saved};
 use view::viewer_ticks;
 use writer::write;
 
@@ -133,7 +133,7 @@ pub extern "C" fn fenalukki_viewer_first_hit(
 ) -> u64
     ensures { HostView file.now (view_ray_of ax ay az bx by bz) budget result }
 {
-    hit_number(viewer_ticks(file, view_ray_of(ax, ay, az, bx, by, bz), budget))
+    hit_number(viewer_ticks(file, ray_of(ax, ay, az, bx, by, bz), budget))
 }
 
 // ---- part files, read and written
@@ -179,9 +179,9 @@ pub extern "C" fn fenalukki_full_cast_counted(
     ensures counted { totals.new ≡ lent_after
         (cast_tally (full_cast file.now (ray_of ax ay az bx by bz) budget (length marks.old))) totals.old }
 {
-    let answer = full_cast(file, ray_of(ax, ay, az, bx, by, bz), budget, marks);
-    count_lent(cast_tally(answer), totals);
-    cast_number(answer)
+    let cast = full_cast(file, ray_of(ax, ay, az, bx, by, bz), budget, marks);
+    count_lent(cast.tally(), totals);
+    cast_number(cast)
 }
 
 #[unsafe(no_mangle)]
@@ -200,9 +200,9 @@ pub extern "C" fn fenalukki_first_hit_counted(
     ensures counted { totals.new ≡ lent_after
         (hit_tally (first_hit file.now (ray_of ax ay az bx by bz) budget)) totals.old }
 {
-    let answer = first_hit(file, ray_of(ax, ay, az, bx, by, bz), budget);
-    count_lent(hit_tally(answer), totals);
-    hit_number(answer)
+    let found = first_hit(file, ray_of(ax, ay, az, bx, by, bz), budget);
+    count_lent(found.tally(), totals);
+    hit_number(found)
 }
 
 #[unsafe(no_mangle)]
@@ -221,9 +221,9 @@ pub extern "C" fn fenalukki_column_counted(
     ensures counted { totals.new ≡ lent_after
         (column_tally (column_answer file.now (ray_of ax ay az bx by bz) (length bits.old))) totals.old }
 {
-    let answer = column(file, ray_of(ax, ay, az, bx, by, bz), bits);
-    count_lent(column_tally(answer), totals);
-    column_number(answer)
+    let probed = column(file, ray_of(ax, ay, az, bx, by, bz), bits);
+    count_lent(probed.tally(), totals);
+    column_number(probed)
 }
 
 #[unsafe(no_mangle)]
@@ -244,7 +244,7 @@ pub extern "C" fn fenalukki_marching_cast_counted(
         (cast_tally (marching_cast file.now (ray_of ax ay az bx by bz) budget (length marks.old))) totals.old }
 {
     let marched = marching_cast(file, ray_of(ax, ay, az, bx, by, bz), budget, marks);
-    count_lent(cast_tally(marched), totals);
+    count_lent(marched.tally(), totals);
     cast_number(marched)
 }
 
@@ -264,8 +264,8 @@ pub extern "C" fn fenalukki_viewer_first_hit_counted(
     ensures counted { totals.new ≡ lent_after
         (view_tally (viewer_first_hit file.now (view_ray_of ax ay az bx by bz) budget)) totals.old }
 {
-    let seen = viewer_ticks(file, view_ray_of(ax, ay, az, bx, by, bz), budget);
-    count_lent(hit_tally(seen), totals);
+    let seen = viewer_ticks(file, ray_of(ax, ay, az, bx, by, bz), budget);
+    count_lent(seen.tally(), totals);
     hit_number(seen)
 }
 

@@ -5,7 +5,7 @@ use native.Mathlib.Nat.{le_trans, le_of_eq, mul-pos, mul-le-mul_right, div-mul-l
 use Rattle.exact.proofs.Order.{pos_reflect}
 use Rattle.exact.proofs.Rounding.{le-ceil, floor_mono, ceil_mono}
 use Rattle.record.specs.declared.Node.{Node}
-use Rattle.field.specs.declared.Ray.{Ray}
+use Rattle.field.specs.Vectors.{Ray}
 use Rattle.field.specs.declared.Span.{Span}
 use Rattle.field.specs.Ray.{radius, Place}
 use Rattle.field.specs.Kernel.{u_den, u_num, u}

@@ -16,7 +16,7 @@ use Rattle.record.specs.declared.Node.{Node}
 use Rattle.record.specs.Ranges.{PointRanges}
 use Rattle.part.specs.declared.Summary.{Summary}
 use Rattle.part.specs.Accepted.{Tree}
-use Rattle.field.specs.declared.Ray.{Ray}
+use Rattle.field.specs.Vectors.{Ray}
 use Rattle.field.specs.Ray.{radius, extent}
 use Rattle.field.specs.Kernel.{quartic, sextic}
 use Rattle.field.specs.Tree.{Item, point, operator, items, Postfix}

@@ -11,8 +11,8 @@ use Rattle.exact.proofs.Vector.{nn_square3}
 use Rattle.exact.proofs.Distance.{dist_squares, foot_squares}
 use Rattle.record.specs.declared.Node.{Node}
 use Rattle.record.specs.Ranges.{PointRanges}
-use Rattle.field.specs.declared.Ray.{Ray}
-use Rattle.field.specs.declared.Offset.{Offset}
+use Rattle.field.specs.Vectors.{Ray}
+use Rattle.field.specs.Vectors.{Offset}
 use Rattle.field.specs.declared.Prepared.{Prepared}
 use Rattle.field.specs.Ray.{inner, radius, to_start, direction, from_centre, squared_distance}
 use Rattle.field.specs.Bounds.{ray_square, prepare, NonNegative, distance_at, foot_distance}

@@ -3,7 +3,7 @@ use lib.IntN.{pos}
 use lib.Signed.{◌≤ℤ◌}
 use Rattle.exact.specs.Fraction.{◌over◌}
 use Rattle.record.specs.Ranges.{PointRanges}
-use Rattle.field.specs.declared.Ray.{Ray}
+use Rattle.field.specs.Vectors.{Ray}
 use Rattle.field.specs.declared.Span.{Span}
 use Rattle.field.specs.Ray.{Ordered, Place}
 use Rattle.field.specs.Tree.{items}

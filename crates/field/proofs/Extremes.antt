@@ -10,7 +10,7 @@ use Rattle.exact.specs.Fraction.{◌≼◌}
 use Rattle.exact.proofs.Order.{pos_mono}
 use Rattle.exact.proofs.Naturals.{clamp}
 use Rattle.record.specs.declared.Node.{Node}
-use Rattle.field.specs.declared.Ray.{Ray}
+use Rattle.field.specs.Vectors.{Ray}
 use Rattle.field.specs.declared.Span.{Span}
 use Rattle.field.specs.Ray.{radius, squared_distance, Ordered, Place}
 use Rattle.field.specs.Kernel.{u_num, u}

@@ -11,7 +11,7 @@ use Rattle.exact.proofs.Order.{≤ℤ_of_eq, ≤ℤ_trans, ≤ℤ-<ℤ_trans, le
 use Rattle.exact.proofs.Tests.{both_true, true_both, lt_z_true, lt-lt_z}
 use Rattle.record.specs.declared.Node.{Node}
 use Rattle.record.specs.Ranges.{PointRanges}
-use Rattle.field.specs.declared.Ray.{Ray}
+use Rattle.field.specs.Vectors.{Ray}
 use Rattle.field.specs.declared.Span.{Span}
 use Rattle.field.specs.declared.Prepared.{Prepared}
 use Rattle.field.specs.Ray.{Ordered, Inside}

@@ -7,7 +7,7 @@ use native.Mathlib.Omega.{arith}
 use Rattle.exact.specs.Fraction.{Fraction}
 use Rattle.exact.proofs.Fractions.{≼_trans}
 use Rattle.part.specs.declared.Summary.{Summary}
-use Rattle.field.specs.declared.Ray.{Ray}
+use Rattle.field.specs.Vectors.{Ray}
 use Rattle.field.specs.Ray.{tick, Place}
 use Rattle.field.specs.Tree.{items}
 use Rattle.field.specs.Solid.{Solid, kernel_of, Valid}

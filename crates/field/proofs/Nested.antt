@@ -10,7 +10,7 @@ use Rattle.exact.proofs.Order.{≤ℤ_trans, ≤ℤ-<ℤ_trans, pos_inj, pos_ref
 use Rattle.exact.proofs.Rounding.{floor_mono, ceil_mono}
 use Rattle.record.specs.declared.Node.{Node}
 use Rattle.record.specs.Ranges.{PointRanges}
-use Rattle.field.specs.declared.Ray.{Ray}
+use Rattle.field.specs.Vectors.{Ray}
 use Rattle.field.specs.declared.Span.{Span}
 use Rattle.field.specs.Ray.{radius, tick, Ordered, Place, Inside}
 use Rattle.field.specs.Kernel.{Kernel, u_den, u_num, u}

@@ -18,8 +18,8 @@ use Rattle.exact.proofs.Rounding.{floor_mono, ceil_mono}
 use Rattle.exact.proofs.Certificates.{sub_zz}
 use Rattle.record.specs.declared.Node.{Node}
 use Rattle.record.specs.Ranges.{PointRanges}
-use Rattle.field.specs.declared.Position.{Position}
-use Rattle.field.specs.declared.Ray.{Ray}
+use Rattle.field.specs.Vectors.{Position}
+use Rattle.field.specs.Vectors.{Ray}
 use Rattle.field.specs.declared.Span.{Span}
 use Rattle.field.specs.declared.Bounds.{Bounds}
 use Rattle.field.specs.Ray.{radius, extent, squared_distance, tick, Place, constant_ray, at_start}

@@ -17,7 +17,7 @@ use Rattle.exact.proofs.Fractions.{≼_trans, less_proper, greater_is, greater_p
 use Rattle.record.specs.declared.Node.{Node}
 use Rattle.record.specs.Nodes.{is_point}
 use Rattle.part.specs.Accepted as part
-use Rattle.field.specs.declared.Ray.{Ray}
+use Rattle.field.specs.Vectors.{Ray}
 use Rattle.field.specs.declared.Span.{Span}
 use Rattle.field.specs.Ray.{Ordered, Place}
 use Rattle.field.specs.Kernel.{Kernel}

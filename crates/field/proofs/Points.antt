@@ -18,7 +18,7 @@ use Rattle.exact.proofs.Certificates.{◌≦◌by◌, le, nn}
 use Rattle.exact.proofs.Naturals.{mul-pow}
 use Rattle.exact.proofs.Fractions.{≼_trans, ≼-over, plus_proper, plus_nn}
 use Rattle.record.specs.declared.Node.{Node}
-use Rattle.field.specs.declared.Ray.{Ray}
+use Rattle.field.specs.Vectors.{Ray}
 use Rattle.field.specs.declared.Span.{Span}
 use Rattle.field.specs.declared.Bounds.{Bounds}
 use Rattle.field.specs.Ray.{radius, extent, tick, Ordered, Place}

@@ -15,7 +15,7 @@ use Rattle.exact.proofs.Naturals.{factor_pos}
 use Rattle.exact.proofs.Rounding.{ceil_test}
 use Rattle.exact.proofs.Distance.{dist_foot_ℕ}
 use Rattle.record.specs.declared.Node.{Node}
-use Rattle.field.specs.declared.Ray.{Ray}
+use Rattle.field.specs.Vectors.{Ray}
 use Rattle.field.specs.declared.Span.{Span}
 use Rattle.field.specs.declared.Prepared.{Prepared}
 use Rattle.field.specs.Ray.{radius, Ordered}

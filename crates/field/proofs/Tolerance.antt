@@ -6,7 +6,7 @@ use lib.IntN.{pos}
 use Rattle.exact.specs.Fraction.{Fraction, ◌over◌}
 use Rattle.record.specs.declared.Node.{Node}
 use Rattle.record.specs.Ranges.{PointRanges}
-use Rattle.field.specs.declared.Ray.{Ray}
+use Rattle.field.specs.Vectors.{Ray}
 use Rattle.field.specs.declared.Span.{Span}
 use Rattle.field.specs.Ray.{tick, Ordered}
 use Rattle.field.specs.Tree.{items}

@@ -16,7 +16,7 @@ use Rattle.exact.proofs.Naturals.{sub-mul}
 use Rattle.exact.proofs.Rounding.{floor_within, ceil_within}
 use Rattle.exact.proofs.Lipschitz.{lipschitz}
 use Rattle.record.specs.declared.Node.{Node}
-use Rattle.field.specs.declared.Ray.{Ray}
+use Rattle.field.specs.Vectors.{Ray}
 use Rattle.field.specs.declared.Span.{Span}
 use Rattle.field.specs.Ray.{radius, to_start, direction, extent, from_centre, squared_distance, tick, Ordered, Place}
 use Rattle.field.specs.Kernel.{u_den, u_num}

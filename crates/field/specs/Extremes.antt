@@ -4,7 +4,7 @@ use Rattle.std.specs.Prelude.{◌≡◌, ◌*◌, ◌/◌}
 use Rattle.exact.specs.Rounding.{ceil}
 use Rattle.exact.specs.Fraction.{Fraction, ◌≼◌}
 use Rattle.record.specs.declared.Node.{Node}
-use Rattle.field.specs.declared.Ray.{Ray}
+use Rattle.field.specs.Vectors.{Ray}
 use Rattle.field.specs.declared.Span.{Span}
 use Rattle.field.specs.Ray.{Place}
 use Rattle.field.specs.Kernel.{u_den, u_num, u}

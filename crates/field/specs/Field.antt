@@ -2,7 +2,7 @@
 use Rattle.std.specs.Prelude.{ℕ, ◌*◌, pos}
 use Rattle.exact.specs.Fraction.{Fraction, ◌over◌, plus, less, greater, lesser}
 use Rattle.record.specs.declared.Node.{Node}
-use Rattle.field.specs.declared.Ray.{Ray}
+use Rattle.field.specs.Vectors.{Ray}
 use Rattle.field.specs.Kernel.{point_at}
 use Rattle.field.specs.Tree.{Operator, Algebra, items, tree_value}
 use Rattle.field.specs.Solid.{Solid}

@@ -4,7 +4,7 @@ use Rattle.std.specs.Prelude.{ℕ, ◌*◌, ◌-◌, ◌/◌, ◌^◌, pos}
 use Rattle.exact.specs.Fraction.{Fraction, ◌over◌, times}
 use Rattle.exact.specs.Rounding.{ceil}
 use Rattle.record.specs.declared.Node.{Node}
-use Rattle.field.specs.declared.Ray.{Ray}
+use Rattle.field.specs.Vectors.{Ray}
 use Rattle.field.specs.Ray.{radius, squared_distance}
 
 -- 1 as bounds have it, "in units of 1/2³²"

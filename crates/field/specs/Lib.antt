@@ -1,3 +1,4 @@
+pub mod Vectors
 pub mod Ray
 pub mod Kernel
 pub mod Tree

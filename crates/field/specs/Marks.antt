@@ -1,7 +1,7 @@
 -- The state of a span, a tick's mark, and what a mark says of the exact field at a place of the tick (document 01, "Marks and probes"; demand 3).
 use Rattle.std.specs.Prelude.{◌≡◌, ℕ, pos}
 use Rattle.exact.specs.Fraction.{Fraction, ◌over◌, Proper, ◌≼◌, ◌≺◌, apart}
-use Rattle.field.specs.declared.Ray.{Ray}
+use Rattle.field.specs.Vectors.{Ray}
 use Rattle.field.specs.declared.Span.{Span}
 use Rattle.field.specs.Ray.{tick}
 use Rattle.field.specs.Solid.{Solid}

@@ -2,7 +2,7 @@
 -- is nearer the centre than the radius". `reaches` is the test, in products; `InReach` is what it says (`reaches-exactly`).
 use Rattle.std.specs.Prelude.{Bool, cond, ◌||◌, ℕ, ◌*◌, ◌<◌, ltb, ℤ, nat_abs}
 use Rattle.record.specs.declared.Node.{Node}
-use Rattle.field.specs.declared.Ray.{Ray}
+use Rattle.field.specs.Vectors.{Ray}
 use Rattle.field.specs.declared.Span.{Span}
 use Rattle.field.specs.declared.Prepared.{Prepared}
 use Rattle.field.specs.Ray.{radius, squared_distance, Place}

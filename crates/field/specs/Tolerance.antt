@@ -5,7 +5,7 @@ use Rattle.std.specs.Prelude.{List, [], ◌∷◌, cond, ℕ, ◌*◌, eqb, pos,
 use Rattle.exact.specs.Fraction.{Fraction, ◌over◌, plus, times}
 use Rattle.record.specs.declared.Node.{Node}
 use Rattle.part.specs.declared.Summary.{Summary}
-use Rattle.field.specs.declared.Ray.{Ray}
+use Rattle.field.specs.Vectors.{Ray}
 use Rattle.field.specs.Ray.{radius, extent}
 use Rattle.field.specs.Kernel.{Kernel}
 use Rattle.field.specs.Tree.{Item, point, operator, items}

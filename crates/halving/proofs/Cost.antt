@@ -10,11 +10,11 @@ use native.Mathlib.Decide.{ℕ_discrete, dec_lt}
 use lib.Dec.{ltb}
 use lib.Pow.{pow_pos}
 use borrow.Author.Tests.{lt-ltb, le-ltb, eq-eqb, ne_eqb}
-use Rattle.halving.specs.declared.HitAnswer.{HitAnswer}
-use Rattle.halving.specs.declared.HitAnswer.TheVariants.{Refused, Hit, Clear, Spent}
+use Rattle.halving.specs.declared.FirstHit.{FirstHit}
+use Rattle.halving.specs.declared.FirstHit.TheVariants.{Hit, Clear, Spent}
 use Rattle.halving.specs.Halving.{Nested}
 use Rattle.halving.specs.FirstHit.{or_else, hit}
-use Rattle.halving.proofs.FirstHit.{hit_out, hit-finished, hit_split, by_search}
+use Rattle.halving.proofs.FirstHits.{hit_out, hit-finished, hit_split, by_search}
 
 -- ---- the ones among the k binary digits of a number below 2^k
 
@@ -38,8 +38,7 @@ ones_zero (suc k) = ones_left k 0 (pow_pos k) ∙ ones_zero k
 
 module _ (state : ℕ → ℕ → ℕ) (b : ℕ) where
   -- what an answer costs, in 2^k ticks from tick i on, with m probes made before
-  abbrev Cost : ℕ → ℕ → ℕ → HitAnswer → Type 0
-  Cost k i m (Refused n) = ⊥
+  abbrev Cost : ℕ → ℕ → ℕ → FirstHit → Type 0
   Cost k i m (Hit t s p) = (h : ℕ) × (t ≡ i + h) × (h < 2 ^ k) × (p + ones k h ≤ m + 2 * h + 1 + k)
   Cost k i m (Clear p) = p < m + 2 ^ suc k
   Cost k i m (Spent t p) = (i ≤ t) × (b + 2 * i ≤ m + 2 * t + k)
@@ -54,15 +53,13 @@ module _ (state : ℕ → ℕ → ℕ) (b : ℕ) where
   ]
 
   -- a left half, and what follows it if it is clear
-  left_then : (k i m : ℕ) (f : HitAnswer) (next : ℕ → HitAnswer) → Cost k i (m + 1) f → ((n : ℕ) → Cost k (i + 2 ^ k) n (next n))
+  left_then : (k i m : ℕ) (f : FirstHit) (next : ℕ → FirstHit) → Cost k i (m + 1) f → ((n : ℕ) → Cost k (i + 2 ^ k) n (next n))
       → Cost (suc k) i m (or_else f next)
-  left_then k i m (Refused _) next few right = elim few [ ]
   left_then k i m (Hit t s p) next (h, at, l, few) right = (h, at, omega (arith, pow_step 2 k), omega (arith, ones_left k h l))
   left_then k i m (Spent t p) next (from, few) right = (from, omega arith)
   left_then k i m (Clear p) next few right = then (next p) (right p)
     where
-      then : (f : HitAnswer) → Cost k (i + 2 ^ k) p f → Cost (suc k) i m f
-      then (Refused _) more = elim more [ ]
+      then : (f : FirstHit) → Cost k (i + 2 ^ k) p f → Cost (suc k) i m f
       then (Hit t s q) (h, at, l, more) =
           (2 ^ k + h, omega arith, omega (arith, pow_step 2 k), omega (arith, pow_step 2 k, ones_right k h))
       then (Clear q) more = omega (arith, pow_step 2 k, pow_step 2 (suc k))

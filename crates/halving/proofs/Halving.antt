@@ -13,8 +13,8 @@ use lib.Seq.{get_or-append-add}
 use lib.Dec.{eqb}
 use lib.Pow.{pow_pos}
 use borrow.Author.Tests.{lt-ltb, le-ltb, eq-eqb, ne_eqb}
-use Rattle.halving.specs.declared.CastAnswer.{CastAnswer}
-use Rattle.halving.specs.declared.CastAnswer.TheVariants.{Refused, Complete, Spent}
+use Rattle.halving.specs.declared.Cast.{Cast}
+use Rattle.halving.specs.declared.Cast.TheVariants.{Complete, Spent}
 use Rattle.halving.specs.Halving.{Nested, and_then, probe_count, span_marks, walk, cast_looked_at}
 
 -- a span of more than one tick that is not halved is decided
@@ -90,20 +90,17 @@ module _ (state : ℕ → ℕ → ℕ) where
     walk_split k i m h e = rw (lt-ltb _ _ h, eq-eqb _ _ e)
 
     -- what the walk of 2^k ticks from tick i on answers, with m probes made before
-    abbrev pub Walked : ℕ → ℕ → ℕ → CastAnswer → Type 0
-    Walked k i m (Refused n) = ⊥
+    abbrev pub Walked : ℕ → ℕ → ℕ → Cast → Type 0
     Walked k i m (Complete p) = (p ≡ m + probe_count state k i) × (p ≤ b)
     Walked k i m (Spent t p) = (p ≡ b) × (b < m + probe_count state k i) × (i ≤ t) × (t < i + 2 ^ k)
 
     -- a left half, and what follows it if it is complete
-    left_then : (k i m : ℕ) (w : CastAnswer) (next : ℕ → CastAnswer)
+    left_then : (k i m : ℕ) (w : Cast) (next : ℕ → Cast)
         → probe_count state (suc k) i ≡ suc (probe_count state k i + probe_count state k (i + 2 ^ k))
         → Walked k i (m + 1) w → ((n : ℕ) → n ≤ b → Walked k (i + 2 ^ k) n (next n)) → Walked (suc k) i m (and_then w next)
-    left_then k i m (Refused _) next c x4 right = elim x4 [ ]
     left_then k i m (Complete p) next c (is, in-budget) right = then (next p) (right p in-budget)
       where
-        then : (w : CastAnswer) → Walked k (i + 2 ^ k) p w → Walked (suc k) i m w
-        then (Refused _) x7 = elim x7 [ ]
+        then : (w : Cast) → Walked k (i + 2 ^ k) p w → Walked (suc k) i m w
         then (Complete q) (q_is, below) = (omega arith, below)
         then (Spent t q) (q_is, more, from, before) = (q_is, omega arith, omega arith, omega (arith, pow_step 2 k))
     left_then k i m (Spent t p) next c (is, more, from, before) right = (is, omega arith, from, omega (arith, pow_step 2 k))
@@ -128,10 +125,9 @@ module _ (state : ℕ → ℕ → ℕ) where
     ]
 
     -- the ticks looked at are those of the span, from its first on
-    pub looked_within : (k i m : ℕ) (w : CastAnswer) → Walked k i m w
+    pub looked_within : (k i m : ℕ) (w : Cast) → Walked k i m w
         → (i ≤ cast_looked_at (i + 2 ^ k) w) × (cast_looked_at (i + 2 ^ k) w ≤ i + 2 ^ k)
     unfolding cast_looked_at
-    looked_within k i m (Refused _) h = elim h [ ]
     looked_within k i m (Complete p) h = (omega arith, omega arith)
     looked_within k i m (Spent t p) (is, more, from, before) = (from, omega arith)
 
@@ -139,8 +135,7 @@ module _ (state : ℕ → ℕ → ℕ) where
     pub enough : (k i m : ℕ) → m + probe_count state k i ≤ b → walk state b k i m ≡ Complete (m + probe_count state k i)
     enough k i m h = complete (walk state b k i m) (walked k i m (omega arith))
       where
-        complete : (w : CastAnswer) → Walked k i m w → w ≡ Complete (m + probe_count state k i)
-        complete (Refused _) x'' = elim x'' [ ]
+        complete : (w : Cast) → Walked k i m w → w ≡ Complete (m + probe_count state k i)
         complete (Complete p) (is, in-budget) = ap Complete is
         complete (Spent t p) (is, more, from, before) = absurd (omega arith)
 

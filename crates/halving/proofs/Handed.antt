@@ -9,8 +9,8 @@ use lib.ListN.{length, take, drop, replicate, length-append, length-replicate}
 use lib.Seq.{sets, length-take-le, take_all}
 use Rattle.exact.proofs.Buffers.{sets-append, sets-whole}
 use Rattle.field.specs.Bounds.{not_looked_at}
-use Rattle.halving.specs.declared.CastAnswer.{CastAnswer}
-use Rattle.halving.specs.declared.CastAnswer.TheVariants.{Complete}
+use Rattle.halving.specs.declared.Cast.{Cast}
+use Rattle.halving.specs.declared.Cast.TheVariants.{Complete}
 use Rattle.halving.specs.Halving.{cast_looked_at, handed}
 
 pub handed_all : (n p : ℕ) (ms : List ℕ) → length ms ≡ n → handed n (Complete p) ms ≡ ms
@@ -20,7 +20,7 @@ handed_all n p ms all =
     ap (λ (k : ℕ). take n ms ++ replicate k not_looked_at) none ∙ append-nil (take n ms) ∙ take_all n ms (le_of_eq all)
 
 -- of n ticks with the marks ms, of which a cast that answers w looked at some
-pub handed-over : (n : ℕ) (w : CastAnswer) (ms : List ℕ) → length ms ≡ n → cast_looked_at n w ≤ n → (out l l' : List ℕ) → n ≤ length out
+pub handed-over : (n : ℕ) (w : Cast) (ms : List ℕ) → length ms ≡ n → cast_looked_at n w ≤ n → (out l l' : List ℕ) → n ≤ length out
     → l ≡ sets out 0 (take (cast_looked_at n w) ms) → l' ≡ sets l (cast_looked_at n w) (replicate (n - cast_looked_at n w) not_looked_at)
     → l' ≡ handed n w ms ++ drop n out
 unfolding handed

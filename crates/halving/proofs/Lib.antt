@@ -1,5 +1,5 @@
 pub mod Halving
-pub mod FirstHit
+pub mod FirstHits
 pub mod SameOrder
 pub mod Cost
 pub mod Worst

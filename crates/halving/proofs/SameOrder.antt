@@ -8,32 +8,30 @@ use native.Mathlib.Omega.{arith, pow_step}
 use native.Mathlib.Decide.{ℕ_discrete, dec_lt}
 use lib.Pow.{pow_pos}
 use borrow.Author.Tests.{eq-eqb, ne_eqb}
-use Rattle.halving.specs.declared.CastAnswer.{CastAnswer}
-use Rattle.halving.specs.declared.CastAnswer.TheVariants as cast
-use Rattle.halving.specs.declared.HitAnswer.{HitAnswer}
-use Rattle.halving.specs.declared.HitAnswer.TheVariants as first
+use Rattle.halving.specs.declared.Cast.{Cast}
+use Rattle.halving.specs.declared.Cast.TheVariants as cast
+use Rattle.halving.specs.declared.FirstHit.{FirstHit}
+use Rattle.halving.specs.declared.FirstHit.TheVariants as first
 use Rattle.halving.specs.Halving.{and_then, walk, cast_looked_at}
 use Rattle.halving.specs.FirstHit.{or_else, finished, hit}
 use Rattle.halving.proofs.Halving.{walk_out, walk-finished, walk_split, walked, looked_within}
-use Rattle.halving.proofs.FirstHit.{hit_out, hit-finished, hit_split, by_search}
+use Rattle.halving.proofs.FirstHits.{hit_out, hit-finished, hit_split, by_search}
 
 -- ---- what one answer says of another
 
 -- a first hit in ticks before tick n, of the full cast with the same budget
-abbrev pub Alike : ℕ → HitAnswer → CastAnswer → Type 0
-Alike n (first.Refused x) w = ⊥
+abbrev pub Alike : ℕ → FirstHit → Cast → Type 0
 Alike n (first.Hit t s p) w = t < cast_looked_at n w
 Alike n (first.Clear p) w = w ≡ cast.Complete p
 Alike n (first.Spent t p) w = w ≡ cast.Spent t p
 
 module _ (c : ℕ) where
   -- a first hit f with p probes, m of them made before, that looked at ticks i to u − 1, of the first hit g with budget c
-  abbrev pub Settled : ℕ → ℕ → ℕ → ℕ → HitAnswer → HitAnswer → Type 0
+  abbrev pub Settled : ℕ → ℕ → ℕ → ℕ → FirstHit → FirstHit → Type 0
   Settled i u m p f g = (i < u) × (m < p) × (p ≤ c → g ≡ f) × (m ≤ c → c < p → (t : ℕ) × (t < u) × (g ≡ first.Spent t c))
 
   -- any first hit in ticks i to n − 1, of that one; if it is spent itself, nothing
-  abbrev pub Told : ℕ → ℕ → ℕ → HitAnswer → HitAnswer → Type 0
-  Told i n m (first.Refused x) g = ⊥
+  abbrev pub Told : ℕ → ℕ → ℕ → FirstHit → FirstHit → Type 0
   Told i n m (first.Hit t s p) g = Settled i (t + 1) m p (first.Hit t s p) g
   Told i n m (first.Clear p) g = Settled i n m p (first.Clear p) g
   Told i n m (first.Spent t p) g = Unit {0}
@@ -51,11 +49,9 @@ module _ (state : ℕ → ℕ → ℕ) where
     ]
 
     -- a left half before tick h, and what follows it
-    left_then : (h n : ℕ) (f : HitAnswer) (w : CastAnswer) (then : ℕ → HitAnswer) (next : ℕ → CastAnswer) → Alike h f w
+    left_then : (h n : ℕ) (f : FirstHit) (w : Cast) (then : ℕ → FirstHit) (next : ℕ → Cast) → Alike h f w
         → ((p : ℕ) → Alike n (then p) (next p)) → ((p : ℕ) → h ≤ cast_looked_at n (next p)) → Alike n (or_else f then) (and_then w next)
     unfolding cast_looked_at
-    left_then h n (first.Refused _) w then next left right from = elim left [ ]
-    left_then h n (first.Hit t s p) (cast.Refused x) then next left right from = left
     left_then h n (first.Hit t s p) (cast.Complete q) then next left right from = omega (arith, from q)
     left_then h n (first.Hit t s p) (cast.Spent u q) then next left right from = left
     left_then h n (first.Clear p) w then next left right from = rw left (right p)
@@ -86,8 +82,8 @@ module _ (state : ℕ → ℕ → ℕ) where
         by_search state b AlikeAt (λ k i m more. rw (hit_out state b k i m more, walk_out state b k i m more) refl) alike_finished alike_split
 
     module _ (k i m : ℕ) where
-      by_answer : {f : HitAnswer} → hit state b k i m ≡ f → Alike (i + 2 ^ k) f (walk state b k i m)
-      by_answer e = subst (λ (f : HitAnswer). Alike (i + 2 ^ k) f (walk state b k i m)) e (alike k i m)
+      by_answer : {f : FirstHit} → hit state b k i m ≡ f → Alike (i + 2 ^ k) f (walk state b k i m)
+      by_answer e = subst (λ (f : FirstHit). Alike (i + 2 ^ k) f (walk state b k i m)) e (alike k i m)
 
       pub spent_alike : {t p : ℕ} → hit state b k i m ≡ first.Spent t p → walk state b k i m ≡ cast.Spent t p
       spent_alike e = by_answer e
@@ -102,44 +98,42 @@ module _ (state : ℕ → ℕ → ℕ) where
 
   module _ (b c : ℕ) where
     -- the answer g' in a span: spent at once, or by the answer g in its left half
-    module _ (i m : ℕ) (g g' : HitAnswer) (next : ℕ → HitAnswer) (out : c ≤ m → g' ≡ first.Spent i m) (split : m < c → g' ≡ or_else g next) where
+    module _ (i m : ℕ) (g g' : FirstHit) (next : ℕ → FirstHit) (out : c ≤ m → g' ≡ first.Spent i m) (split : m < c → g' ≡ or_else g next) where
       cut : (u : ℕ) → i < u → (m < c → (t : ℕ) × (t < u) × (g ≡ first.Spent t c)) → m ≤ c → (t : ℕ) × (t < u) × (g' ≡ first.Spent t c)
       cut u from left h = elim (dec_lt m c) [
-        | yes lt ↦ let l = left lt in (l.0, l.1, split lt ∙ ap (λ (g : HitAnswer). or_else g next) l.2)
+        | yes lt ↦ let l = left lt in (l.0, l.1, split lt ∙ ap (λ (g : FirstHit). or_else g next) l.2)
         | no n ↦ let e : m ≡ c = omega arith in (i, from, out (omega arith) ∙ ap (λ (n : ℕ). first.Spent i n) e)
       ]
 
-      from_left : (u p : ℕ) (f : HitAnswer) → or_else f next ≡ f → Settled c i u (m + 1) p f g → Settled c i u m p f g'
+      from_left : (u p : ℕ) (f : FirstHit) → or_else f next ≡ f → Settled c i u (m + 1) p f g → Settled c i u m p f g'
       from_left u p f ended (from, more, same, spent) = (
         from,
         omega arith,
-        (λ h. split (omega arith) ∙ ap (λ (g : HitAnswer). or_else g next) (same h) ∙ ended),
+        (λ h. split (omega arith) ∙ ap (λ (g : FirstHit). or_else g next) (same h) ∙ ended),
         (λ h l. cut u from (λ lt. spent (omega arith) l) h),
       )
 
-      from_right : (half u p q : ℕ) (f : HitAnswer) → Settled c i half (m + 1) p (first.Clear p) g → Settled c half u p q f (next p)
+      from_right : (half u p q : ℕ) (f : FirstHit) → Settled c i half (m + 1) p (first.Clear p) g → Settled c half u p q f (next p)
           → Settled c i u m q f g'
       from_right half u p q f (from, more, same, spent) (from', more', same', spent') = (
         omega arith,
         omega arith,
-        (λ h. split (omega arith) ∙ ap (λ (g : HitAnswer). or_else g next) (same (omega arith)) ∙ same' h),
+        (λ h. split (omega arith) ∙ ap (λ (g : FirstHit). or_else g next) (same (omega arith)) ∙ same' h),
         (λ h l. elim (dec_lt c p) [
           | yes less ↦ cut u (omega arith) (λ lt. let s = spent (omega arith) less in (s.0, omega (arith, s.1), s.2)) h
           | no n ↦
               let s = spent' (omega arith) l in
-              (s.0, s.1, split (omega arith) ∙ ap (λ (g : HitAnswer). or_else g next) (same (omega arith)) ∙ s.2)
+              (s.0, s.1, split (omega arith) ∙ ap (λ (g : FirstHit). or_else g next) (same (omega arith)) ∙ s.2)
         ]),
       )
 
-      told_halves : (half n : ℕ) (f : HitAnswer) (then : ℕ → HitAnswer) → Told c i half (m + 1) f g → ((p : ℕ) → Told c half n p (then p) (next p))
+      told_halves : (half n : ℕ) (f : FirstHit) (then : ℕ → FirstHit) → Told c i half (m + 1) f g → ((p : ℕ) → Told c half n p (then p) (next p))
           → Told c i n m (or_else f then) g'
-      told_halves half n (first.Refused _) then left right = elim left [ ]
       told_halves half n (first.Hit t s p) then left right = from_left (t + 1) p (first.Hit t s p) refl left
       told_halves half n (first.Spent t p) then left right = tt
       told_halves half n (first.Clear p) then left right = by_right (then p) (right p)
         where
-          by_right : (f : HitAnswer) → Told c half n p f (next p) → Told c i n m f g'
-          by_right (first.Refused _) r = elim r [ ]
+          by_right : (f : FirstHit) → Told c half n p f (next p) → Told c i n m f g'
           by_right (first.Hit t s q) r = from_right half (t + 1) p q (first.Hit t s q) left r
           by_right (first.Clear q) r = from_right half n p q (first.Clear q) left r
           by_right (first.Spent t q) r = tt
@@ -155,7 +149,7 @@ module _ (state : ℕ → ℕ → ℕ) where
           (one (i + 1) (first.Hit i (state i (2 ^ k)) (m + 1)) (omega arith) (rw (ne_eqb _ _ n) refl))
     ]
       where
-        one : (u : ℕ) (f : HitAnswer) → i < u → finished (state i (2 ^ k)) i (m + 1) ≡ f → Settled c i u m (m + 1) f (hit state c k i m)
+        one : (u : ℕ) (f : FirstHit) → i < u → finished (state i (2 ^ k)) i (m + 1) ≡ f → Settled c i u m (m + 1) f (hit state c k i m)
         one u f from is = (
           from,
           omega arith,
@@ -183,7 +177,7 @@ module _ (state : ℕ → ℕ → ℕ) where
 
   module _ (b k i m : ℕ) {t s p : ℕ} (e : hit state b k i m ≡ first.Hit t s p) (c : ℕ) where
     settled : Settled c i (t + 1) m p (first.Hit t s p) (hit state c k i m)
-    settled = subst (λ (f : HitAnswer). Told c i (i + 2 ^ k) m f (hit state c k i m)) e (told b c k i m)
+    settled = subst (λ (f : FirstHit). Told c i (i + 2 ^ k) m f (hit state c k i m)) e (told b c k i m)
 
     pub hit-enough : p ≤ c → hit state c k i m ≡ first.Hit t s p
     hit-enough h = settled.2 h

@@ -9,16 +9,16 @@ use lib.ListN.{length, take, drop, replicate}
 use lib.Seq.{sets, take_all, take-append-le, take-append-add}
 use Rattle.exact.proofs.Buffers.{sets-append}
 use Rattle.field.specs.Bounds.{not_looked_at}
-use Rattle.halving.specs.declared.CastAnswer.{CastAnswer}
-use Rattle.halving.specs.declared.CastAnswer.TheVariants as cast
-use Rattle.halving.specs.declared.HitAnswer.{HitAnswer}
-use Rattle.halving.specs.declared.HitAnswer.TheVariants as first
+use Rattle.halving.specs.declared.Cast.{Cast}
+use Rattle.halving.specs.declared.Cast.TheVariants as cast
+use Rattle.halving.specs.declared.FirstHit.{FirstHit}
+use Rattle.halving.specs.declared.FirstHit.TheVariants as first
 use Rattle.halving.specs.Halving.{and_then, span_marks, walk, cast_looked_at, handed}
 use Rattle.halving.specs.Search.{Halvable}
 use Rattle.halving.specs.FirstHit.{or_else, finished, hit}
 use Rattle.halving.proofs.Halving.{marks_split, marks_finished, length_marks}
 use Rattle.halving.proofs.Halving.{walk_out, walk-finished, walk_split, Walked, walked, looked_within}
-use Rattle.halving.proofs.FirstHit.{hit-finished, hit_split}
+use Rattle.halving.proofs.FirstHits.{hit-finished, hit_split}
 use Rattle.halving.proofs.Handed.{handed-over}
 
 -- ---- halves
@@ -40,23 +40,22 @@ halved st i size e undecided = ap (λ (n : ℕ). st i n) (sym (size ∙ ap (λ (
 -- ---- the cast
 
 -- a part that is not complete ends the cast
-abbrev pub Stopped : CastAnswer → Type 0
-Stopped (cast.Refused n) = Unit {0}
+abbrev pub Stopped : Cast → Type 0
 Stopped (cast.Complete p) = ⊥
 Stopped (cast.Spent t p) = Unit {0}
 
 module _ (st : ℕ → ℕ → ℕ) (b k i m len : ℕ) (size : len ≡ 2 ^ k) (out : List ℕ) where
   -- what `cast_span` promises of its answer and of the buffer
-  abbrev pub Cast : CastAnswer → List ℕ → Type 0
-  Cast w l = (w ≡ walk st b k i m) × (l ≡ sets out i (take (cast_looked_at (i + len) w - i) (span_marks st k i)))
+  abbrev pub SpanCast : Cast → List ℕ → Type 0
+  SpanCast w l = (w ≡ walk st b k i m) × (l ≡ sets out i (take (cast_looked_at (i + len) w - i) (span_marks st k i)))
 
-  pub span_out : b ≤ m → Cast (cast.Spent i m) out
+  pub span_out : b ≤ m → SpanCast (cast.Spent i m) out
   unfolding cast_looked_at
   span_out h =
       let z : i - i ≡ 0 = omega arith in
       (sym (walk_out st b k i m h), ap (λ (n : ℕ). sets out i (take n (span_marks st k i))) (sym z))
 
-  pub span_finished : (l : List ℕ) → m < b → (st i len ≡ 1 → k ≡ 0) → l ≡ sets out i (replicate len (st i len)) → Cast (cast.Complete (m + 1)) l
+  pub span_finished : (l : List ℕ) → m < b → (st i len ≡ 1 → k ≡ 0) → l ≡ sets out i (replicate len (st i len)) → SpanCast (cast.Complete (m + 1)) l
   unfolding cast_looked_at
   span_finished l h e filled =
       let f : st i (2 ^ k) ≡ 1 → k ≡ 0 = subst (λ (n : ℕ). st i n ≡ 1 → k ≡ 0) size e in
@@ -85,17 +84,16 @@ module _ (st : ℕ → ℕ → ℕ) (b k i m len : ℕ) (size : len ≡ 2 ^ k) (
     long = length_marks st j i ∙ sym is-half
 
     -- the left half stops
-    pub span_left : (w : CastAnswer) (l : List ℕ) → Stopped w → w ≡ walk st b j i (m + 1)
-        → l ≡ sets out i (take (cast_looked_at (i + half) w - i) (span_marks st j i)) → Cast w l
+    pub span_left : (w : Cast) (l : List ℕ) → Stopped w → w ≡ walk st b j i (m + 1)
+        → l ≡ sets out i (take (cast_looked_at (i + half) w - i) (span_marks st j i)) → SpanCast w l
     unfolding cast_looked_at
     span_left w l stopped is wrote = go w (subst (Walked st b j i (m + 1)) (sym is) (walked st b j i (m + 1) (omega arith))) stopped is wrote
       where
-        go : (w : CastAnswer) → Walked st b j i (m + 1) w → Stopped w → w ≡ walk st b j i (m + 1)
-            → l ≡ sets out i (take (cast_looked_at (i + half) w - i) (span_marks st j i)) → Cast w l
-        go (cast.Refused _) x5 stopped is wrote = elim x5 [ ]
+        go : (w : Cast) → Walked st b j i (m + 1) w → Stopped w → w ≡ walk st b j i (m + 1)
+            → l ≡ sets out i (take (cast_looked_at (i + half) w - i) (span_marks st j i)) → SpanCast w l
         go (cast.Complete _) _ stopped is wrote = elim stopped [ ]
         go (cast.Spent t p) (all, more, from, before) stopped is wrote = (
-          sym (walk_is ∙ ap (λ (w : CastAnswer). and_then w (λ n. walk st b j (i + half) n)) (sym is)),
+          sym (walk_is ∙ ap (λ (w : Cast). and_then w (λ n. walk st b j (i + half) n)) (sym is)),
           wrote
               ∙ ap (λ (ms : List ℕ). sets out i ms)
               (sym (ap (λ (ms : List ℕ). take (t - i) ms) marks_are
@@ -103,11 +101,11 @@ module _ (st : ℕ → ℕ → ℕ) (b k i m len : ℕ) (size : len ≡ 2 ^ k) (
         )
 
     -- the left half is complete with p probes, and the right half follows
-    pub span_right : (w r : CastAnswer) (p : ℕ) (l l' : List ℕ) → w ≡ cast.Complete p → w ≡ walk st b j i (m + 1)
+    pub span_right : (w r : Cast) (p : ℕ) (l l' : List ℕ) → w ≡ cast.Complete p → w ≡ walk st b j i (m + 1)
         → l ≡ sets out i (take (cast_looked_at (i + half) w - i) (span_marks st j i))
         → r ≡ walk st b j (i + half) p
         → l' ≡ sets l (i + half) (take (cast_looked_at (i + half + half) r - (i + half)) (span_marks st j (i + half)))
-        → Cast r l'
+        → SpanCast r l'
     unfolding cast_looked_at
     span_right w r p l l' complete is wrote r-is r-wrote =
         let q : walk st b j i (m + 1) ≡ cast.Complete p = sym is ∙ complete in
@@ -119,11 +117,11 @@ module _ (st : ℕ → ℕ → ℕ) (b k i m len : ℕ) (size : len ≡ 2 ^ k) (
         let right = span_marks st j (i + half) in
         let l_is : l ≡ sets out i left =
         wrote
-        ∙ ap (λ (w : CastAnswer). sets out i (take (cast_looked_at (i + half) w - i) left)) complete
+        ∙ ap (λ (w : Cast). sets out i (take (cast_looked_at (i + half) w - i) left)) complete
         ∙ ap (λ (ms : List ℕ). sets out i ms) (take_all (i + half - i) left (omega (arith, long))) in
         let more : length left + (looked - (i + half)) ≡ looked - i = omega (arith, long, from) in
         let end : i + half + half ≡ i + len = omega (arith, is-half, size ∙ ap (λ (n : ℕ). 2 ^ n) e, pow_step 2 j) in (
-          r-is ∙ sym (walk_is ∙ ap (λ (w : CastAnswer). and_then w (λ n. walk st b j (i + half) n)) q),
+          r-is ∙ sym (walk_is ∙ ap (λ (w : Cast). and_then w (λ n. walk st b j (i + half) n)) q),
           r-wrote
               ∙ ap (λ (x : List ℕ). sets x (i + half) (take (looked - (i + half)) right)) l_is
               ∙ ap (λ (n : ℕ). sets (sets out i left) (i + n) (take (looked - (i + half)) right)) (sym long)
@@ -136,7 +134,7 @@ module _ (st : ℕ → ℕ → ℕ) (b k i m len : ℕ) (size : len ≡ 2 ^ k) (
         )
 
 -- the whole ray
-module _ (st : ℕ → ℕ → ℕ) (b k n : ℕ) (size : n ≡ 2 ^ k) (w : CastAnswer) (is : w ≡ walk st b k 0 0) where
+module _ (st : ℕ → ℕ → ℕ) (b k n : ℕ) (size : n ≡ 2 ^ k) (w : Cast) (is : w ≡ walk st b k 0 0) where
   pub reached_within : cast_looked_at n w ≤ n
   reached_within =
       subst (λ (n : ℕ). cast_looked_at n w ≤ n) (zero-add (2 ^ k) ∙ sym size)
@@ -155,15 +153,13 @@ module _ (st : ℕ → ℕ → ℕ) (b k n : ℕ) (size : n ≡ 2 ^ k) (w : Cast
 -- ---- the first hit
 
 -- a part that is not clear ends the search
-abbrev pub Ended : HitAnswer → Type 0
-Ended (first.Refused n) = Unit {0}
+abbrev pub Ended : FirstHit → Type 0
 Ended (first.Hit t s p) = Unit {0}
 Ended (first.Clear p) = ⊥
 Ended (first.Spent t p) = Unit {0}
 
-ended_stays : (f : HitAnswer) (next : ℕ → HitAnswer) → Ended f → or_else f next ≡ f
+ended_stays : (f : FirstHit) (next : ℕ → FirstHit) → Ended f → or_else f next ≡ f
 ended_stays (first.Clear _) next e = elim e [ ]
-ended_stays (first.Refused n) next e = refl
 ended_stays (first.Hit t s p) next e = refl
 ended_stays (first.Spent t p) next e = refl
 
@@ -186,10 +182,10 @@ module _ (st : ℕ → ℕ → ℕ) (b k i m len : ℕ) (size : len ≡ 2 ^ k) (
         ∙ ap (λ (x : ℕ). or_else (hit st b j i (m + 1)) (λ n. hit st b j (i + x) n)) (sym is-half)
 
     -- the left half ends the search
-    pub hit_left : (f : HitAnswer) → Ended f → f ≡ hit st b j i (m + 1) → f ≡ hit st b k i m
+    pub hit_left : (f : FirstHit) → Ended f → f ≡ hit st b j i (m + 1) → f ≡ hit st b k i m
     hit_left f ended is =
-        sym (hit_is ∙ ap (λ (f : HitAnswer). or_else f (λ n. hit st b j (i + half) n)) (sym is) ∙ ended_stays f (λ n. hit st b j (i + half) n) ended)
+        sym (hit_is ∙ ap (λ (f : FirstHit). or_else f (λ n. hit st b j (i + half) n)) (sym is) ∙ ended_stays f (λ n. hit st b j (i + half) n) ended)
 
     -- the left half is clear with p probes, and the right half follows
-    pub hit_right : (f r : HitAnswer) (p : ℕ) → f ≡ first.Clear p → f ≡ hit st b j i (m + 1) → r ≡ hit st b j (i + half) p → r ≡ hit st b k i m
-    hit_right f r p clear is r-is = r-is ∙ sym (hit_is ∙ ap (λ (f : HitAnswer). or_else f (λ n. hit st b j (i + half) n)) (sym is ∙ clear))
+    pub hit_right : (f r : FirstHit) (p : ℕ) → f ≡ first.Clear p → f ≡ hit st b j i (m + 1) → r ≡ hit st b j (i + half) p → r ≡ hit st b k i m
+    hit_right f r p clear is r-is = r-is ∙ sym (hit_is ∙ ap (λ (f : FirstHit). or_else f (λ n. hit st b j (i + half) n)) (sym is ∙ clear))

@@ -15,7 +15,7 @@ use Rattle.field.specs.Bounds.{crossing_mark}
 use Rattle.halving.specs.Halving.{Nested, probe_count, span_marks}
 use Rattle.halving.specs.FirstHit.{finished, hit}
 use Rattle.halving.proofs.Halving.{count_split, count-finished, marks_split, marks_finished}
-use Rattle.halving.proofs.FirstHit.{hit-finished}
+use Rattle.halving.proofs.FirstHits.{hit-finished}
 use Rattle.halving.proofs.Cost.{crossing_hit}
 
 -- every span is in state s

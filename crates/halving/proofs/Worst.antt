@@ -9,10 +9,10 @@ use native.Mathlib.Decide.{ℕ_discrete, dec_lt}
 use lib.Dec.{ltb, eqb}
 use lib.Pow.{pow_pos}
 use borrow.Author.Tests.{lt-ltb, le-ltb, ne_eqb}
-use Rattle.halving.specs.declared.HitAnswer.TheVariants.{Hit, Clear}
+use Rattle.halving.specs.declared.FirstHit.TheVariants.{Hit, Clear}
 use Rattle.halving.specs.Halving.{Nested}
 use Rattle.halving.specs.FirstHit.{hit}
-use Rattle.halving.proofs.FirstHit.{hit-finished, hit_split}
+use Rattle.halving.proofs.FirstHits.{hit-finished, hit_split}
 use Rattle.halving.proofs.Cost.{ones, ones_left, ones_right, ones_zero}
 
 -- ticks before tick h are empty; the others, and every longer span, are crossing

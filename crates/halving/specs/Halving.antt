@@ -3,14 +3,13 @@
 -- half done wholly before its right half."
 use Rattle.std.specs.Prelude.{ℕ, zero, suc, ◌+◌, ◌-◌, ◌^◌, ◌≤◌, ◌<◌, ◌≡◌, List, [], ◌∷◌, ◌++◌, cond, take, replicate, ltb, eqb}
 use Rattle.field.specs.Bounds.{crossing_mark, not_looked_at}
-use Rattle.halving.specs.declared.CastAnswer.{CastAnswer}
-use Rattle.halving.specs.declared.CastAnswer.TheVariants.{Refused, Complete, Spent}
+use Rattle.halving.specs.declared.Cast.{Cast}
+use Rattle.halving.specs.declared.Cast.TheVariants.{Complete, Spent}
 
 -- what follows a complete cast with its probes; a spent one stays as it is
-abbrev pub and_then : CastAnswer → (ℕ → CastAnswer) → CastAnswer
+abbrev pub and_then : Cast → (ℕ → Cast) → Cast
 and_then (Complete probes) next = next probes
 and_then (Spent tick probes) next = Spent tick probes
-and_then (Refused number) next = Refused number
 
 -- "a tick within a decided stretch is decided the same way by itself"
 abbrev pub Nested : (ℕ → ℕ → ℕ) → Type 0
@@ -36,19 +35,18 @@ module _ (state : ℕ → ℕ → ℕ) where
   -- the cast of it, with `made` probes made before: "When that many probes are made and another is needed, the cast is spent at the first tick of
   -- the stretch waiting to be probed."
   module _ (budget : ℕ) where
-    unfoldable pub walk : ℕ → ℕ → ℕ → CastAnswer
+    unfoldable pub walk : ℕ → ℕ → ℕ → Cast
     walk zero i made = cond (ltb made budget) (Complete (made + 1)) (Spent i made)
     walk (suc k) i made =
         let halves = and_then (walk k i (made + 1)) (λ probes. walk k (i + 2 ^ k) probes) in
         let probed = cond (eqb (state i (2 ^ suc k)) crossing_mark) halves (Complete (made + 1)) in
         cond (ltb made budget) probed (Spent i made)
 
--- how many of n ticks a cast looked at: "those before the one reached […] if the call is spent", none if it is refused, otherwise all
-unfoldable pub cast_looked_at : ℕ → CastAnswer → ℕ
-cast_looked_at n (Refused number) = 0
+-- how many of n ticks a cast looked at: "those before the one reached […] if the call is spent", otherwise all
+unfoldable pub cast_looked_at : ℕ → Cast → ℕ
 cast_looked_at n (Complete probes) = n
 cast_looked_at n (Spent tick probes) = tick
 
 -- the n marks handed over: "Marks before that tick are written; from it on they are 3."
-unfoldable pub handed : ℕ → CastAnswer → List ℕ → List ℕ
-handed n answer ms = take (cast_looked_at n answer) ms ++ replicate (n - cast_looked_at n answer) not_looked_at
+unfoldable pub handed : ℕ → Cast → List ℕ → List ℕ
+handed n cast ms = take (cast_looked_at n cast) ms ++ replicate (n - cast_looked_at n cast) not_looked_at

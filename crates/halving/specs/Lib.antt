@@ -1,4 +1,4 @@
 pub mod Halving
 pub mod FirstHit
 pub mod Search
-pub mod Numbers
+pub mod Answers

@@ -5,28 +5,26 @@
 
 ghost use Rattle.std.specs.Prelude.{◌≡◌, ◌++◌, ◌+◌, ◌-◌, ◌≤◌, length, take, drop, replicate};
 ghost use Rattle.std.proofs.lemmas.List.Edits.{sets};
-ghost use Rattle.field.specs.Bounds.{not_looked_at};
+ghost use Rattle.field.specs.Bounds.{state_mark, not_looked_at};
 ghost use Rattle.halving.specs.Halving.{span_marks, walk, cast_looked_at, handed};
 ghost use Rattle.halving.specs.FirstHit.{hit};
 ghost use Rattle.halving.specs.Search.{Searchable, Halvable, state_in};
 
 use bounds::{HELD, span_state};
-use field::{CROSSING, EMPTY, NOT_LOOKED_AT, Span};
+use field::{Bounds, NOT_LOOKED_AT, Span, State};
 use part::Summary;
 
-// What a full cast answers: the refusal number; the probes; or the tick reached and the probes.
-#[derive(Clone, Copy)]
-pub enum CastAnswer {
-    Refused(u32),
+// How a full cast ends: complete, or spent at the tick reached; and its probes.
+#[derive(Clone, Copy, Debug, PartialEq, Eq)]
+pub enum Cast {
     Complete { probes: u32 },
     Spent { tick: usize, probes: u32 },
 }
 
-// What a first hit answers: the refusal number; the first tick that is not empty, its mark and the probes; the probes, if all are
-// empty; or the tick reached and the probes.
-#[derive(Clone, Copy)]
-pub enum HitAnswer {
-    Refused(u32),
+// How a first hit ends: at the first tick that is not empty, with its mark; clear, all ticks being empty; or spent at the tick reached; and its
+// probes.
+#[derive(Clone, Copy, Debug, PartialEq, Eq)]
+pub enum FirstHit {
     Hit { tick: usize, mark: u8, probes: u32 },
     Clear { probes: u32 },
     Spent { tick: usize, probes: u32 },
@@ -43,10 +41,16 @@ pub struct Search {
 // ---- the search
 
 // One probe: the state of the ticks from tick first on. Here and below, the lent array `held` is a probe's working space.
-pub fn probe(held: &mut [i64; HELD], prepared: &[i64], s: Search, first: usize, len: usize) -> u8
+pub fn probe(
+    held: &mut [Bounds; HELD],
+    prepared: &[i64],
+    s: Search,
+    first: usize,
+    len: usize,
+) -> State
     requires searchable { Searchable prepared.now s }
     requires len_bound { first + len ≤ s.ticks }
-    ensures { result ≡ state_in prepared.now s first len }
+    ensures { state_mark result ≡ state_in prepared.now s first len }
 {
     let span = Span {
         from: first as u64,
@@ -61,24 +65,20 @@ pub fn fill(marks: &mut [u8], first: usize, len: usize, mark: u8)
     requires { first + len ≤ length marks.old }
     ensures { marks.new ≡ sets marks.old first (replicate len mark) }
 {
-    let mut n = 0;
-    while n < len {
-        marks[first + n] = mark;
-        n += 1;
-    }
+    marks[first..first + len].fill(mark);
 }
 
 // Casts the len ticks from tick first on, two to the power level, with some probes made before.
 fn cast_span(
     out: &mut [u8],
-    held: &mut [i64; HELD],
+    held: &mut [Bounds; HELD],
     prepared: &[i64],
     s: Search,
     first: usize,
     len: usize,
     level: usize,
     made: u32,
-) -> CastAnswer
+) -> Cast
     requires searchable { Searchable prepared.now s }
     requires halvable { Halvable s.ticks first len level }
     requires len_in_bounds { first + len ≤ length out.old }
@@ -87,55 +87,58 @@ fn cast_span(
         (take (cast_looked_at (first + len) result - first) (span_marks (state_in prepared.now s) level first)) }
 {
     if s.budget <= made {
-        return CastAnswer::Spent {
+        return Cast::Spent {
             tick: first,
             probes: made,
         };
     }
-    let state = probe(held, prepared, s, first, len);
-    if state != CROSSING || level == 0 {
-        fill(out, first, len, state);
-        return CastAnswer::Complete { probes: made + 1 };
+    match probe(held, prepared, s, first, len) {
+        State::Crossing if level > 0 => {
+            let half = len / 2;
+            let middle = first + half;
+            let left = cast_span(out, held, prepared, s, first, half, level - 1, made + 1);
+            let Cast::Complete { probes } = left else {
+                return left;
+            };
+            cast_span(out, held, prepared, s, middle, half, level - 1, probes)
+        }
+        state => {
+            fill(out, first, len, state.mark());
+            Cast::Complete { probes: made + 1 }
+        }
     }
-    let half = len / 2;
-    let middle = first + half;
-    let left = cast_span(out, held, prepared, s, first, half, level - 1, made + 1);
-    if let CastAnswer::Complete { probes } = left {
-        return cast_span(out, held, prepared, s, middle, half, level - 1, probes);
-    }
-    left
 }
 
 // How many of n ticks a cast looked at.
-fn looked_at(n: usize, answer: CastAnswer) -> usize
-    ensures { result ≡ cast_looked_at n answer }
+#[tactic(auto, unfolding(crate::specs::Halving::cast_looked_at))]
+fn looked_at(n: usize, cast: Cast) -> usize
+    ensures { result ≡ cast_looked_at n cast }
 {
-    match answer {
-        CastAnswer::Refused(_) => 0,
-        CastAnswer::Complete { probes: _ } => n,
-        CastAnswer::Spent { tick, probes: _ } => tick,
+    match cast {
+        Cast::Complete { probes: _ } => n,
+        Cast::Spent { tick, probes: _ } => tick,
     }
 }
 
 // Marks 3 the ticks that a cast of so many did not look at.
-pub fn mark_rest(out: &mut [u8], ticks: usize, answer: CastAnswer)
-    requires answer_bound { cast_looked_at ticks answer ≤ ticks }
+pub fn mark_rest(out: &mut [u8], ticks: usize, cast: Cast)
+    requires cast_bound { cast_looked_at ticks cast ≤ ticks }
     requires ticks_in_bounds { ticks ≤ length out.old }
     ensures { out.new
-        ≡ sets out.old (cast_looked_at ticks answer) (replicate (ticks - cast_looked_at ticks answer) not_looked_at) }
+        ≡ sets out.old (cast_looked_at ticks cast) (replicate (ticks - cast_looked_at ticks cast) not_looked_at) }
 {
-    let reached = looked_at(ticks, answer);
+    let reached = looked_at(ticks, cast);
     fill(out, reached, ticks - reached, NOT_LOOKED_AT);
 }
 
 // Casts a whole ray, of two to the power level ticks, and hands over every tick's mark, 3 for those not looked at.
 pub fn cast_ticks(
     out: &mut [u8],
-    held: &mut [i64; HELD],
+    held: &mut [Bounds; HELD],
     prepared: &[i64],
     s: Search,
     level: usize,
-) -> CastAnswer
+) -> Cast
     requires searchable { Searchable prepared.now s }
     requires halvable { Halvable s.ticks 0 s.ticks level }
     requires ticks_in_bounds { s.ticks ≤ length out.old }
@@ -143,53 +146,52 @@ pub fn cast_ticks(
     ensures bytes { out.new
         ≡ handed s.ticks result (span_marks (state_in prepared.now s) level 0) ++ drop s.ticks out.old }
 {
-    let answer = cast_span(out, held, prepared, s, 0, s.ticks, level, 0);
-    mark_rest(out, s.ticks, answer);
-    answer
+    let cast = cast_span(out, held, prepared, s, 0, s.ticks, level, 0);
+    mark_rest(out, s.ticks, cast);
+    cast
 }
 
 // The first hit in the len ticks from tick first on, two to the power level, with some probes made before.
 fn hit_span(
-    held: &mut [i64; HELD],
+    held: &mut [Bounds; HELD],
     prepared: &[i64],
     s: Search,
     first: usize,
     len: usize,
     level: usize,
     made: u32,
-) -> HitAnswer
+) -> FirstHit
     requires searchable { Searchable prepared.now s }
     requires halvable { Halvable s.ticks first len level }
     ensures { result ≡ hit (state_in prepared.now s) s.budget level first made }
 {
     if s.budget <= made {
-        return HitAnswer::Spent {
+        return FirstHit::Spent {
             tick: first,
             probes: made,
         };
     }
-    let state = probe(held, prepared, s, first, len);
-    if state == EMPTY {
-        return HitAnswer::Clear { probes: made + 1 };
-    }
-    if state != CROSSING || level == 0 {
-        return HitAnswer::Hit {
+    match probe(held, prepared, s, first, len) {
+        State::Empty => FirstHit::Clear { probes: made + 1 },
+        State::Crossing if level > 0 => {
+            let half = len / 2;
+            let middle = first + half;
+            let left = hit_span(held, prepared, s, first, half, level - 1, made + 1);
+            let FirstHit::Clear { probes } = left else {
+                return left;
+            };
+            hit_span(held, prepared, s, middle, half, level - 1, probes)
+        }
+        state => FirstHit::Hit {
             tick: first,
-            mark: state,
+            mark: state.mark(),
             probes: made + 1,
-        };
+        },
     }
-    let half = len / 2;
-    let middle = first + half;
-    let left = hit_span(held, prepared, s, first, half, level - 1, made + 1);
-    if let HitAnswer::Clear { probes } = left {
-        return hit_span(held, prepared, s, middle, half, level - 1, probes);
-    }
-    left
 }
 
 // The first hit on a whole ray, of two to the power level ticks.
-pub fn hit_ticks(held: &mut [i64; HELD], prepared: &[i64], s: Search, level: usize) -> HitAnswer
+pub fn hit_ticks(held: &mut [Bounds; HELD], prepared: &[i64], s: Search, level: usize) -> FirstHit
     requires searchable { Searchable prepared.now s }
     requires halvable { Halvable s.ticks 0 s.ticks level }
     ensures { result ≡ hit (state_in prepared.now s) s.budget level 0 0 }

@@ -2,34 +2,31 @@
 -- at most 2,047 times the casts added if no marching cast has changed the totals (`figure`), and at most 2,052 times in every history
 -- (`marching_figure`). So it is with a record that was zeroed (`probes_few`, `marching_probes_few`), and with three numbers that a host in C set to 0
 -- (`host_probes_few`, `host_marching_probes_few`).
+use Rattle.std.specs.Prelude.{Ok, Err, Some, None}
 use mathlib.Core.Path.{◌≡◌, refl, ap, ◌∙◌}
 use mathlib.Core.List.{List, [], ◌∷◌}
 use Prim.Native.Nat.{ℕ, ◌+◌, ◌*◌, ◌^◌, ◌≤◌, ◌<◌}
 use native.Mathlib.Omega.{arith}
 use lib.ListN.{length}
-use Rattle.field.specs.declared.Ray.{Ray}
+use Rattle.field.specs.Vectors.{Ray}
 use Rattle.field.specs.Solid.{Solid, solid_of}
-use Rattle.halving.specs.declared.CastAnswer.{CastAnswer}
-use Rattle.halving.specs.declared.CastAnswer.TheVariants as cast
-use Rattle.halving.specs.declared.HitAnswer.{HitAnswer}
-use Rattle.halving.specs.declared.HitAnswer.TheVariants as found
-use Rattle.cast.specs.declared.ColumnAnswer.{ColumnAnswer}
-use Rattle.cast.specs.declared.ColumnAnswer.TheVariants as column
+use Rattle.halving.specs.Answers.{CastAnswer}
+use Rattle.halving.specs.declared.Cast.TheVariants as cast
+use Rattle.halving.specs.Answers.{HitAnswer}
+use Rattle.halving.specs.declared.FirstHit.TheVariants as found
 use Rattle.cast.specs.Ticks.{exponent, enough}
 use Rattle.cast.specs.Demands.{Counted, CountedHit, CountedColumn}
 use Rattle.cast.proofs.Demands.{cast_demands, hit_demands, column_demands}
 use Rattle.march.specs.Marching.{march_enough}
 use Rattle.march.proofs.Demands.{march_demands}
-use Rattle.view.specs.declared.ViewRay.{ViewRay}
+use Rattle.view.specs.Ray.{ViewRay}
 use Rattle.view.specs.declared.ViewAnswer.{ViewAnswer}
 use Rattle.view.specs.declared.ViewAnswer.TheVariants as view
 use Rattle.view.specs.Ray.{steps_ray}
 use Rattle.view.specs.Demands.{in_ticks, CountedView}
 use Rattle.view.proofs.Call.{view_promised}
 use Rattle.tally.specs.declared.Totals.{Totals}
-use Rattle.tally.specs.declared.Tally.{Tally}
-use Rattle.tally.specs.declared.Tally.TheVariants.{Cast, Refused}
-use Rattle.tally.specs.Counts.{ceiling, capped, cast_tally, hit_tally, column_tally, view_tally}
+use Rattle.tally.specs.Counts.{ceiling, capped, cast_tally, hit_tally, column_tally, view_tally, Tally}
 use Rattle.tally.specs.Counts.{Total, casts_total, probes_total, refusals_total, total, adds}
 use Rattle.tally.specs.Saved.{after_saved}
 use Rattle.tally.proofs.Counts.{tally_adds}
@@ -37,10 +34,11 @@ use Rattle.totals.specs.declared.Call.{Call}
 use Rattle.totals.specs.declared.Call.TheVariants as call
 use Rattle.totals.specs.declared.ViewCall.{ViewCall}
 use Rattle.totals.specs.Calls.{answer_to, tally_of, totals_after, view_to, totals_after_view, totals_restored}
-use Rattle.numbers.specs.Numbers.{totals_in, totals_out}
+use Rattle.tally.specs.Lent.{totals_in, totals_out}
 use Rattle.numbers.proofs.Numbers.{lent_counts, lent_restores}
 use Rattle.history.specs.History.{Event, performed, viewed, restored, after_all, after_event, after_history, zeroed}
 use Rattle.history.specs.History.{lent_after_event, lent_after_history, adds_to, added, Every, Unread, NoneRead, Unmarched, NoneMarched}
+use Rattle.cast.specs.Column.{ColumnAnswer}
 
 -- ---- each total is what was added
 
@@ -68,28 +66,28 @@ Few most tally = adds probes_total tally ≤ most * adds casts_total tally
 
 few_more : {less most : ℕ} → less ≤ most → (tally : Tally) → Few less tally → Few most tally
 unfolding adds
-few_more h (Cast p) few = omega arith
-few_more h Refused few = omega arith
+few_more h (Some p) few = omega arith
+few_more h None few = omega arith
 
 -- a cast that hands over marks
 cast_few : (T count most budget : ℕ) (a : CastAnswer) → Counted T count most budget a → Few most (cast_tally a)
 unfolding adds cast_tally Counted
-cast_few T count most budget (cast.Refused n) c = omega arith
-cast_few T count most budget (cast.Complete p) (is, in-budget, at_most) = omega (arith, is)
-cast_few T count most budget (cast.Spent t p) (before, all, more, at_most) = omega (arith, all)
+cast_few T count most budget (Err n) c = omega arith
+cast_few T count most budget (Ok (cast.Complete p)) (is, in-budget, at_most) = omega (arith, is)
+cast_few T count most budget (Ok (cast.Spent t p)) (before, all, more, at_most) = omega (arith, all)
 
 module _ (solid : Solid) (ray : Ray) (k : ℕ) where
   hit_few : (budget : ℕ) (a : HitAnswer) → CountedHit solid ray k budget a → Few (enough (2 ^ k)) (hit_tally a)
   unfolding adds hit_tally CountedHit
-  hit_few budget (found.Refused n) c = omega arith
-  hit_few budget (found.Hit t s p) (in-budget, count, most) = omega arith
-  hit_few budget (found.Clear p) (is, in-budget, most) = omega (arith, is)
-  hit_few budget (found.Spent t p) (all, more, most) = omega (arith, all)
+  hit_few budget (Err n) c = omega arith
+  hit_few budget (Ok (found.Hit t s p)) (in-budget, count, most) = omega arith
+  hit_few budget (Ok (found.Clear p)) (is, in-budget, most) = omega (arith, is)
+  hit_few budget (Ok (found.Spent t p)) (all, more, most) = omega (arith, all)
 
   column_few : (a : ColumnAnswer) → CountedColumn solid ray k a → Few (enough (2 ^ k)) (column_tally a)
   unfolding adds column_tally CountedColumn
-  column_few (column.Refused n) c = omega arith
-  column_few (column.Complete p) (is, most) = omega (arith, is)
+  column_few (Err n) c = omega arith
+  column_few (Ok p) (is, most) = omega (arith, is)
 
 view_few : (file : List ℕ) (ray : ViewRay) (k budget : ℕ) (a : ViewAnswer) → CountedView file ray k budget a
     → Few (enough (2 ^ k)) (view_tally a)

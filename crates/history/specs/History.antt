@@ -1,9 +1,7 @@
 -- Histories of running totals (document 02, P4 and P5): what is done to them, one after the other, and what that adds.
-use Rattle.std.specs.Prelude.{◌≡◌, List, [], ◌∷◌, ℕ, ◌+◌, length}
+use Rattle.std.specs.Prelude.{◌≡◌, List, [], ◌∷◌, ℕ, ◌+◌, length, Err, None}
 use Rattle.march.specs.Calls.{marching_cast}
 use Rattle.tally.specs.declared.Totals.{Totals}
-use Rattle.tally.specs.declared.Tally.TheVariants as tally
-use Rattle.tally.specs.declared.Saved.TheVariants.{Refused}
 use Rattle.tally.specs.Counts.{cast_tally, view_tally, Total, adds}
 use Rattle.tally.specs.Saved.{read_saved}
 use Rattle.totals.specs.declared.Call.{Call}
@@ -11,6 +9,7 @@ use Rattle.totals.specs.declared.Call.TheVariants as call
 use Rattle.totals.specs.declared.ViewCall.{ViewCall}
 use Rattle.totals.specs.Calls.{answer_to, tally_of, totals_after, view_to, totals_after_view, totals_restored}
 use Rattle.numbers.specs.Numbers.{lent_after, saved_left}
+use Rattle.record.specs.declared.Refusal.TheVariants as no
 
 -- one thing done: a full cast, first hit, column or marching cast on a file, with the buffer that was lent; a viewer's first hit on a file; a saved
 -- record handed over to be read
@@ -74,7 +73,7 @@ Every Such (e ∷ later) = Such e × Every Such later
 unfoldable pub Unread : Event → Type 0
 Unread (performed file call buffer) = Unit {0}
 Unread (viewed file call) = Unit {0}
-Unread (restored saved) = read_saved saved ≡ Refused 18
+Unread (restored saved) = read_saved saved ≡ Err no.SavedLength
 
 abbrev pub NoneRead : List Event → Type 0
 NoneRead h = Every Unread h
@@ -84,7 +83,7 @@ unfoldable pub Unmarched : Event → Type 0
 Unmarched (performed file (call.FullCast ray budget) buffer) = Unit {0}
 Unmarched (performed file (call.FirstHit ray budget) buffer) = Unit {0}
 Unmarched (performed file (call.Column ray) buffer) = Unit {0}
-Unmarched (performed file (call.MarchingCast ray budget) buffer) = cast_tally (marching_cast file ray budget (length buffer)) ≡ tally.Refused
+Unmarched (performed file (call.MarchingCast ray budget) buffer) = cast_tally (marching_cast file ray budget (length buffer)) ≡ None
 Unmarched (viewed file call) = Unit {0}
 Unmarched (restored saved) = Unit {0}
 

@@ -1,4 +1,4 @@
-// What the programs share: their input as far as it goes, where the part file starts in it, and numbers as they print them.
+// What the programs share: their input as far as it goes, and where the part file starts in it.
 
 #![tactic(auto)]
 
@@ -26,23 +26,5 @@ pub fn read_full(rt: &impl Input, buf: &mut [u8]) -> io::Result<usize>
 pub fn file_start(n: usize, head: usize) -> usize
     ensures { result ≡ min n head }
 {
-    if n < head { n } else { head }
-}
-
-// A number, with a word before it and a byte after it.
-pub fn print_number(rt: &impl Print, word: &[u8], n: u64, after: u8) -> io::Result<()> {
-    rt.write_all(word)?;
-    print!(rt; "{n}")?;
-    let end = [after];
-    rt.write_all(&end[..])
-}
-
-// The same of a signed number. The least one has no opposite of 64 bits, so one is added before the sign is changed and again after.
-pub fn print_signed(rt: &impl Print, word: &[u8], z: i64, after: u8) -> io::Result<()> {
-    rt.write_all(word)?;
-    if z < 0 {
-        print_number(rt, b"-", (0 - (z + 1)) as u64 + 1, after)
-    } else {
-        print_number(rt, b"", z as u64, after)
-    }
+    n.min(head)
 }

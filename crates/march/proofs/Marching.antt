@@ -5,6 +5,7 @@
 -- (`first_marks`). Where a decided span decides each of its ticks alike (`Nested`), every mark is its tick's own state (`march_at`), and so the
 -- halving search's (`marks_equal`). Laws take a number f of candidates that reach the end, `Enough f i c`, which a probe hands on to f − 1
 -- (`enough-next`).
+use Rattle.std.specs.Prelude.{Ok}
 use Prim.Native.Nat.{ℕ, zero, suc, ◌+◌, ◌-◌, ◌*◌, ◌/◌, ◌^◌, ◌≤◌, ◌<◌}
 use mathlib.Core.Path.{◌≡◌, refl, sym, ap, ◌∙◌}
 use mathlib.Core.Logic.{◌⊎◌, inl, inr}
@@ -15,8 +16,8 @@ use native.Mathlib.Nat.{min-le_left, min-le_right, le-min, zero-add, sub-zero}
 use lib.ListN.{length, take, get_or, replicate, length-append, length-replicate, get_or-replicate, get_or-append}
 use lib.Seq.{get_or-append-add, ext_get_or, take-nil, take-append-add}
 use borrow.Author.Tests.{lt-ltb, le-ltb, eq-eqb, ne_eqb}
-use Rattle.halving.specs.declared.CastAnswer.{CastAnswer}
-use Rattle.halving.specs.declared.CastAnswer.TheVariants.{Refused, Complete, Spent}
+use Rattle.halving.specs.declared.Cast.{Cast}
+use Rattle.halving.specs.declared.Cast.TheVariants.{Complete, Spent}
 use Rattle.halving.specs.Halving.{Nested, span_marks, cast_looked_at}
 use Rattle.halving.proofs.Halving as halving
 use Rattle.cast.specs.Demands.{Counted}
@@ -281,14 +282,12 @@ module _ (state : ℕ → ℕ → ℕ) (T : ℕ) where
   -- ---- the walk
 
   -- what the walk answers with b probes left of the budget and m made before, where f candidates reach the end
-  abbrev pub Walked : ℕ → ℕ → ℕ → ℕ → ℕ → CastAnswer → Type 0
-  Walked f b i c m (Refused n) = ⊥
+  abbrev pub Walked : ℕ → ℕ → ℕ → ℕ → ℕ → Cast → Type 0
   Walked f b i c m (Complete p) = (p ≡ m + count_from state T f i c) × (count_from state T f i c ≤ b)
   Walked f b i c m (Spent t p) = (p ≡ m + b) × (b < count_from state T f i c) × (i ≤ t) × (t < T)
 
-  walked_probe : (f b i c m : ℕ) (w : CastAnswer) → 1 ≤ c → i < T
+  walked_probe : (f b i c m : ℕ) (w : Cast) → 1 ≤ c → i < T
       → Walked f b (tick_after state T i c) (length_after state T i c) (m + 1) w → Walked (suc f) (suc b) i c m w
-  walked_probe f b i c m (Refused _) h lt x4 = elim x4 [ ]
   walked_probe f b i c m (Complete p) h lt (is, few) = (omega (arith, count_probe f i c lt), omega (arith, count_probe f i c lt))
   walked_probe f b i c m (Spent t p) h lt (is, more, from, before) =
       (omega arith, omega (arith, count_probe f i c lt), omega (arith, (next i c h lt).from), before)
@@ -317,12 +316,11 @@ module _ (state : ℕ → ℕ → ℕ) (T : ℕ) where
     whole = walked (march_enough T) b 0 first_length 0 (omega arith) (march-enough (march_enough T) (omega arith))
 
     -- spent exactly where the count is more than the budget, at a tick of the ray; "the probes it reports are the smaller of the two"
-    pub counted : Counted T (march_count state T) (march_enough T) b (march state T b)
+    pub counted : Counted T (march_count state T) (march_enough T) b (Ok (march state T b))
     unfolding Counted
     counted = go (march state T b) whole
       where
-        go : (w : CastAnswer) → Walked (march_enough T) b 0 first_length 0 w → Counted T (march_count state T) (march_enough T) b w
-        go (Refused _) x'' = elim x'' [ ]
+        go : (w : Cast) → Walked (march_enough T) b 0 first_length 0 w → Counted T (march_count state T) (march_enough T) b (Ok w)
         go (Complete p) (is, few) = (is ∙ zero-add (march_count state T), few, count_most (march_enough T))
         go (Spent t p) (is, more, from, before) = (before, is ∙ zero-add b, more, count_most (march_enough T))
 
@@ -330,8 +328,7 @@ module _ (state : ℕ → ℕ → ℕ) (T : ℕ) where
     pub enough : march_count state T ≤ b → march state T b ≡ Complete (march_count state T)
     enough h = go (march state T b) whole
       where
-        go : (w : CastAnswer) → Walked (march_enough T) b 0 first_length 0 w → w ≡ Complete (march_count state T)
-        go (Refused _) x'' = elim x'' [ ]
+        go : (w : Cast) → Walked (march_enough T) b 0 first_length 0 w → w ≡ Complete (march_count state T)
         go (Complete p) (is, few) = ap Complete (is ∙ zero-add (march_count state T))
         go (Spent t p) (is, more, from, before) = absurd (omega arith)
 
@@ -358,9 +355,8 @@ module _ (state : ℕ → ℕ → ℕ) (T : ℕ) where
   length-march = length_marks (march_enough T) 0 first_length (omega arith) (march-enough (march_enough T) (omega arith)) ∙ sub-zero T
 
   -- the ticks looked at are those from tick i on
-  pub looked_within : (f b i c m : ℕ) (w : CastAnswer) → i ≤ T → Walked f b i c m w → (i ≤ cast_looked_at T w) × (cast_looked_at T w ≤ T)
+  pub looked_within : (f b i c m : ℕ) (w : Cast) → i ≤ T → Walked f b i c m w → (i ≤ cast_looked_at T w) × (cast_looked_at T w ≤ T)
   unfolding cast_looked_at
-  looked_within f b i c m (Refused _) h w = elim w [ ]
   looked_within f b i c m (Complete p) h w = (h, omega arith)
   looked_within f b i c m (Spent t p) h (is, more, from, before) = (from, omega arith)
 

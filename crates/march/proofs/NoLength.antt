@@ -1,6 +1,7 @@
 -- A marching cast on a ray whose ends coincide (document 02, P8), by what the place call answers of that place: it takes 5 probes where the bounds
 -- decide, with candidates of 64, 128, 256, 512 and 64 ticks, and where they do not as many as there can be (`place_march_probes`); unspent, it marks
 -- every tick by the place's state, as the full cast does (`place_march`).
+use Rattle.std.specs.Prelude.{Ok}
 use mathlib.Core.Path.{◌≡◌, refl, sym, ap, subst, ◌∙◌}
 use mathlib.Core.Logic.{inl, inr}
 use mathlib.Core.List.{List, ◌++◌}
@@ -11,16 +12,15 @@ use lib.Dec.{eqb}
 use lib.ListN.{length, drop, replicate, length-replicate}
 use lib.Pow.{pow_pos}
 use Rattle.part.specs.File.{iso}
-use Rattle.field.specs.declared.Position.{Position}
-use Rattle.field.specs.declared.Ray.{Ray}
+use Rattle.field.specs.Vectors.{Position}
+use Rattle.field.specs.Vectors.{Ray}
 use Rattle.field.specs.declared.Bounds.{Bounds}
 use Rattle.field.specs.Ray.{constant_ray}
 use Rattle.field.specs.Solid.{Solid, solid_of}
 use Rattle.field.specs.Bounds.{empty_mark, crossing_mark, inside_mark, state_of}
 use Rattle.field.proofs.States.{three_states}
-use Rattle.bounds.specs.declared.BoundsAnswer.TheVariants as place
 use Rattle.bounds.specs.Place.{place_bounds}
-use Rattle.halving.specs.declared.CastAnswer.TheVariants as cast
+use Rattle.halving.specs.declared.Cast.TheVariants as cast
 use Rattle.halving.proofs.Uniform.{uniform, marks_uniform}
 use Rattle.halving.proofs.Handed.{handed_all}
 use Rattle.cast.specs.Ticks.{exponent, ray_state}
@@ -58,7 +58,7 @@ counts iso b = elim (three_states iso b) [
   | inr c ↦ elim c [ inl e ↦ subst Counts (sym e) all_inside | inr e ↦ subst Counts (sym e) all_crossing ]
 ]
 
-module _ (file : List ℕ) (p : Position) {b : Bounds} (bounded : place_bounds file p ≡ place.Bounded b) where
+module _ (file : List ℕ) (p : Position) {b : Bounds} (bounded : place_bounds file p ≡ Ok b) where
   abbrev solid : Solid
   solid = solid_of file
 
@@ -79,7 +79,7 @@ module _ (file : List ℕ) (p : Position) {b : Bounds} (bounded : place_bounds f
       ∙ rw (place_states file p bounded (pow_pos exponent)) (marks_uniform s exponent 0)
 
   pub place_march : (budget : ℕ) (lent : List ℕ) → probes_of s ≤ budget → 2 ^ exponent ≤ length lent
-      → (marching_cast file ray budget (length lent) ≡ cast.Complete (probes_of s))
+      → (marching_cast file ray budget (length lent) ≡ Ok (cast.Complete (probes_of s)))
       × (marched_left file ray budget lent ≡ replicate (2 ^ exponent) s ++ drop (2 ^ exponent) lent)
   unfolding marching_cast marched_left cast_after marks_after
   place_march budget lent few room =

@@ -8,8 +8,8 @@ use lib.ListN.{length, take, drop, replicate}
 use lib.Seq.{sets, length-sets}
 use Rattle.exact.proofs.Buffers.{sets-append}
 use Rattle.field.specs.Bounds.{not_looked_at}
-use Rattle.halving.specs.declared.CastAnswer.{CastAnswer}
-use Rattle.halving.specs.declared.CastAnswer.TheVariants.{Complete, Spent}
+use Rattle.halving.specs.declared.Cast.{Cast}
+use Rattle.halving.specs.declared.Cast.TheVariants.{Complete, Spent}
 use Rattle.halving.specs.Halving.{cast_looked_at, handed}
 use Rattle.halving.proofs.Handed.{handed-over}
 use Rattle.march.specs.Marching.{first_length, march_enough, cut, tick_after, length_after, marks_of, walk_from, marks_from, march_marks, march}
@@ -55,7 +55,7 @@ module _ (state : ℕ → ℕ → ℕ) (T b : ℕ) where
       pub size : length l ≡ length out
 
     -- what `march_on` promises of its answer and of the buffer
-    abbrev pub Marched : CastAnswer → List ℕ → Type 0
+    abbrev pub Marched : Cast → List ℕ → Type 0
     Marched w l = (w ≡ march state T b) × (l ≡ sets out 0 (marks_from state T b 0 first_length))
 
     pub started : Left out (record { first = 0; length = first_length }) 0
@@ -104,7 +104,7 @@ module _ (state : ℕ → ℕ → ℕ) (T b : ℕ) where
 
   -- ---- the whole ray
 
-  module _ (w : CastAnswer) (is : w ≡ march state T b) where
+  module _ (w : Cast) (is : w ≡ march state T b) where
     pub reached_within : cast_looked_at T w ≤ T
     reached_within = rw is (looked_within state T (march_enough T) b 0 first_length 0 (march state T b) (omega arith) (whole state T b)).1
 

@@ -2,9 +2,10 @@
 -- questions work as in the full cast". What a ray of a solid gives is stated for 2^k ticks; the call has 2^exponent.
 use Rattle.std.specs.Prelude.{ℕ, ◌^◌, List, length}
 use Rattle.record.specs.Questions.{first_no}
-use Rattle.field.specs.declared.Ray.{Ray}
+use Rattle.field.specs.Vectors.{Ray}
 use Rattle.field.specs.Solid.{Solid, solid_of}
-use Rattle.halving.specs.declared.CastAnswer.{CastAnswer}
+use Rattle.halving.specs.declared.Cast.{Cast}
+use Rattle.halving.specs.Answers.{CastAnswer}
 use Rattle.cast.specs.Ticks.{exponent, ray_state}
 use Rattle.cast.specs.Questions.{buffer_questions}
 use Rattle.cast.specs.Calls.{cast_after, marks_after}
@@ -20,7 +21,7 @@ march_probes solid ray k = march_count (ray_state solid ray (2 ^ k)) (2 ^ k)
 abbrev pub marched_marks : Solid → Ray → ℕ → List ℕ
 marched_marks solid ray k = march_marks (ray_state solid ray (2 ^ k)) (2 ^ k)
 
-abbrev pub ray_march : Solid → Ray → ℕ → ℕ → CastAnswer
+abbrev pub ray_march : Solid → Ray → ℕ → ℕ → Cast
 ray_march solid ray k budget = march (ray_state solid ray (2 ^ k)) (2 ^ k) budget
 
 -- ---- the call: its answer, and the buffer afterwards

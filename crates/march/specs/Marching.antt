@@ -3,8 +3,8 @@
 -- it is cut.
 use Rattle.std.specs.Prelude.{ℕ, zero, suc, ◌+◌, ◌-◌, ◌*◌, ◌/◌, ◌≤◌, ◌<◌, min, List, [], ◌++◌, Bool, cond, ◌&&◌, replicate, ltb, eqb}
 use Rattle.field.specs.Bounds.{crossing_mark}
-use Rattle.halving.specs.declared.CastAnswer.{CastAnswer}
-use Rattle.halving.specs.declared.CastAnswer.TheVariants.{Complete, Spent}
+use Rattle.halving.specs.declared.Cast.{Cast}
+use Rattle.halving.specs.declared.Cast.TheVariants.{Complete, Spent}
 
 -- "a candidate of 64 ticks"
 abbrev pub first_length : ℕ
@@ -71,7 +71,7 @@ module _ (state : ℕ → ℕ → ℕ) (T : ℕ) where
 
   -- the cast of it with so many probes left of the budget and `made` probes made before: spent "at the first tick of the stretch waiting to be
   -- probed"
-  unfoldable pub walk_from : ℕ → ℕ → ℕ → ℕ → CastAnswer
+  unfoldable pub walk_from : ℕ → ℕ → ℕ → ℕ → Cast
   walk_from zero i c made = cond (ltb i T) (Spent i made) (Complete made)
   walk_from (suc more) i c made =
       let later = walk_from more (tick_after i c) (length_after i c) (made + 1) in
@@ -88,5 +88,5 @@ module _ (state : ℕ → ℕ → ℕ) (T : ℕ) where
   abbrev pub march_marks : List ℕ
   march_marks = marks_from (march_enough T) 0 first_length
 
-  abbrev pub march : ℕ → CastAnswer
+  abbrev pub march : ℕ → Cast
   march budget = walk_from budget 0 first_length 0

@@ -13,12 +13,12 @@ ghost use Rattle.march.specs.Candidates.{Waiting, Followed};
 ghost use Rattle.march.specs.Calls.{marching_cast, marched_left};
 ghost use Rattle.march.specs.Demands.{MarchDemands};
 
-use bounds::HELD;
+use bounds::{HELD, NO_BOUNDS};
 use cast::{TICKS, load_buffer};
-use field::{CROSSING, Ray};
-use halving::{CastAnswer, Search, fill, mark_rest, probe};
+use field::{Bounds, Ray, State};
+use halving::{Cast, Search, fill, mark_rest, probe};
 use loading::PREPARED;
-use part::Checked;
+use record::Refusal;
 
 // The first candidate's ticks.
 pub const FIRST: usize = 64;
@@ -37,15 +37,14 @@ fn cut_to(first: usize, length: usize, ticks: usize) -> usize
     requires { first ≤ ticks }
     ensures { result ≡ cut ticks first length }
 {
-    let left = ticks - first;
-    if length < left { length } else { left }
+    length.min(ticks - first)
 }
 
 // Probes a candidate, marks its ticks if they are known then, and gives the next one. Here and below, the lent array `held` is a probe's working
 // space.
 fn advance(
     out: &mut [u8],
-    held: &mut [i64; HELD],
+    held: &mut [Bounds; HELD],
     prepared: &[i64],
     s: Search,
     at: Candidate,
@@ -57,25 +56,25 @@ fn advance(
     ensures bytes { out.new
         ≡ sets out.old at.first (marks_of (state_in prepared.now s) s.ticks at.first at.length) }
 {
-    let first = at.first;
-    let length = at.length;
+    let Candidate { first, length } = at;
     let len = cut_to(first, length, s.ticks);
-    let state = probe(held, prepared, s, first, len);
-    if state == CROSSING && 1 < len {
-        return Candidate {
-            first: first,
+    match probe(held, prepared, s, first, len) {
+        State::Crossing if len > 1 => Candidate {
+            first,
             length: len / 2,
-        };
-    }
-    fill(out, first, len, state);
-    Candidate {
-        first: first + len,
-        length: 2 * len,
+        },
+        state => {
+            fill(out, first, len, state.mark());
+            Candidate {
+                first: first + len,
+                length: 2 * len,
+            }
+        }
     }
 }
 
 // Marches through the ray as far as the budget goes, and marks the ticks that it looks at.
-fn march_on(out: &mut [u8], held: &mut [i64; HELD], prepared: &[i64], s: Search) -> CastAnswer
+fn march_on(out: &mut [u8], held: &mut [Bounds; HELD], prepared: &[i64], s: Search) -> Cast
     requires searchable { Searchable prepared.now s }
     requires ticks_in_bounds { s.ticks ≤ length out.old }
     ensures answer { result ≡ march (state_in prepared.now s) s.ticks s.budget }
@@ -89,7 +88,7 @@ fn march_on(out: &mut [u8], held: &mut [i64; HELD], prepared: &[i64], s: Search)
     let mut made: u32 = 0;
     while at.first < s.ticks {
         if s.budget <= made {
-            return CastAnswer::Spent {
+            return Cast::Spent {
                 tick: at.first,
                 probes: made,
             };
@@ -97,42 +96,37 @@ fn march_on(out: &mut [u8], held: &mut [i64; HELD], prepared: &[i64], s: Search)
         at = advance(out, held, prepared, s, at);
         made += 1;
     }
-    CastAnswer::Complete { probes: made }
+    Cast::Complete { probes: made }
 }
 
 // Marches through a whole ray and hands over every tick's mark, 3 for those not looked at.
-fn march_ticks(out: &mut [u8], held: &mut [i64; HELD], prepared: &[i64], s: Search) -> CastAnswer
+fn march_ticks(out: &mut [u8], held: &mut [Bounds; HELD], prepared: &[i64], s: Search) -> Cast
     requires searchable { Searchable prepared.now s }
     requires ticks_in_bounds { s.ticks ≤ length out.old }
     ensures answer { result ≡ march (state_in prepared.now s) s.ticks s.budget }
     ensures bytes { out.new
         ≡ handed s.ticks result (march_marks (state_in prepared.now s) s.ticks) ++ drop s.ticks out.old }
 {
-    let answer = march_on(out, held, prepared, s);
-    mark_rest(out, s.ticks, answer);
-    answer
+    let cast = march_on(out, held, prepared, s);
+    mark_rest(out, s.ticks, cast);
+    cast
 }
 
 // ---- the call
 
 // Marching full cast: every tick's mark, as far as the budget goes.
-pub fn marching_cast(file: &[u8], ray: Ray, budget: u32, marks: &mut [u8]) -> CastAnswer
+pub fn marching_cast(file: &[u8], ray: Ray, budget: u32, marks: &mut [u8]) -> Result<Cast, Refusal>
     ensures answer { result ≡ marching_cast file.now ray budget (length marks.old) }
     ensures bytes { marks.new ≡ marched_left file.now ray budget marks.old }
     ensures demands { MarchDemands (solid_of file.now) ray exponent budget result marks.new }
 {
     let mut prepared = [0i64; PREPARED];
-    let mut held = [0i64; HELD];
-    let checked = load_buffer(file, ray, TICKS, marks.len(), &mut prepared);
-    match checked {
-        Checked::Refused(number) => CastAnswer::Refused(number),
-        Checked::Accepted(part) => {
-            let s = Search {
-                part: part,
-                ticks: TICKS,
-                budget: budget,
-            };
-            march_ticks(marks, &mut held, &prepared[..], s)
-        }
-    }
+    let mut held = [NO_BOUNDS; HELD];
+    let part = load_buffer(file, ray, TICKS, marks.len(), &mut prepared)?;
+    let s = Search {
+        part,
+        ticks: TICKS,
+        budget,
+    };
+    Ok(march_ticks(marks, &mut held, &prepared[..], s))
 }

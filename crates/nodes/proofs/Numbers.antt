@@ -1,8 +1,8 @@
--- Laws of the nodes' numbers in a lent array: one node of n (`numbers-step`), how many there are, and the array after all (`nodes_stored`).
+-- Laws of the nodes' numbers in a lent array: the k-th node of n (`numbers-step`), how many there are, and the array after all (`nodes_stored`).
 -- `nodes_stored file n at l h`, from `h : 6 * n ≤ length l`: stored from the start of l, the numbers of n nodes stand before what l had after them.
 use Prim.Native.Nat.{ℕ, ◌+◌, ◌-◌, ◌*◌, ◌≤◌, ◌<◌}
 use native.Mathlib.Omega.{arith}
-use mathlib.Core.Path.{◌≡◌, refl, sym, ap, ◌∙◌}
+use mathlib.Core.Path.{◌≡◌, refl, ap, ◌∙◌}
 use mathlib.Core.List.{List, [], ◌∷◌, ◌++◌}
 use lib.ListN.{length, drop}
 use lib.IntN.{ℤ}
@@ -14,21 +14,20 @@ use Rattle.part.specs.File.{nodes_from}
 use Rattle.part.proofs.Records.{nodes-step, nodes-length}
 use Rattle.nodes.specs.Numbers.{numbers}
 
--- a node's numbers are stored by two stores of three, of numbers that are the node's
-pub node_halves : (n : Node) (l : List ℤ) (to : ℕ) {k r x y z w : ℤ} {half whole : List ℤ}
-    → k ≡ n.kind → r ≡ n.radius → x ≡ n.x → y ≡ n.y → z ≡ n.z → w ≡ n.weight
-    → half ≡ sets l to (k ∷ r ∷ x ∷ []) → whole ≡ sets half (to + 3) (y ∷ z ∷ w ∷ []) → whole ≡ sets l to (numbers (n ∷ []))
-unfolding numbers
-node_halves n l to {k} {r} {x} {y} {z} {w} ek er ex ey ez ew first second =
-    second ∙ (λ i. sets (first i) (to + 3) (y ∷ z ∷ w ∷ [])) ∙ sets-append (k ∷ r ∷ x ∷ []) (y ∷ z ∷ w ∷ []) l to
-    ∙ (λ i. sets l to (ek i ∷ er i ∷ ex i ∷ ey i ∷ ez i ∷ ew i ∷ []))
+-- the array after the nodes from the k-th on are stored in their places
+abbrev pub stored_from : List ℕ → ℕ → ℕ → List ℤ → ℕ → List ℤ
+stored_from file n first l k = sets l (6 * k) (numbers (nodes_from file (n - k) (first + 12 * k)))
 
-pub numbers-step : (file : List ℕ) (n at : ℕ) (l : List ℤ) (to : ℕ) → 0 < n
-    → sets l to (numbers (nodes_from file n at))
-    ≡ sets (sets l to (numbers (node_at file at ∷ []))) (to + 6) (numbers (nodes_from file (n - 1) (at + 12)))
+-- the k-th stored, and then those after it
+pub numbers-step : (file : List ℕ) (n first : ℕ) (l : List ℤ) (k : ℕ) {out : List ℤ} → k < n
+    → out ≡ sets l (6 * k) (numbers (node_at file (first + 12 * k) ∷ [])) → stored_from file n first out (k + 1) ≡ stored_from file n first l k
 unfolding numbers
-numbers-step file n at l to h =
-    rw (nodes-step file n at h) (sym (sets-append (numbers (node_at file at ∷ [])) (numbers (nodes_from file (n - 1) (at + 12))) l to))
+numbers-step file n first l k h e =
+    let left : n - (k + 1) ≡ n - k - 1 = omega arith in
+    let at : first + 12 * (k + 1) ≡ first + 12 * k + 12 = omega arith in
+    let to : 6 * (k + 1) ≡ 6 * k + 6 = omega arith in
+    rw (nodes-step file (n - k) (first + 12 * k) (omega arith), e, left, at, to)
+    (sets-append (numbers (node_at file (first + 12 * k) ∷ [])) (numbers (nodes_from file (n - k - 1) (first + 12 * k + 12))) l (6 * k))
 
 pub numbers-length : (ns : List Node) → length (numbers ns) ≡ 6 * length ns
 unfolding numbers

@@ -1,35 +1,34 @@
 -- From the check's answer back to its questions; the numbers that they have (`file_numbered`).
 -- `accepted file e` says that every question of the file is answered yes, from `e : check_file file ≡ Accepted part`.
+use Rattle.std.specs.Prelude.{Ok, Err}
 use Prim.Native.Nat.{ℕ, ◌≤◌}
 use native.Mathlib.Omega.{arith}
 use mathlib.Core.Path.{◌≡◌, refl}
 use mathlib.Core.List.{List, [], ◌∷◌}
-use Rattle.record.specs.Questions.{first_no}
+use Rattle.record.specs.Questions.{first_no, Verdict}
 use Rattle.record.specs.Nodes.{held_after}
 use Rattle.record.specs.Record.{node_questions, record_questions}
 use Rattle.record.specs.declared.Record.{Record}
-use Rattle.record.specs.declared.Verdict.{Verdict}
-use Rattle.record.specs.declared.Verdict.TheVariants.{Yes, No}
+use Rattle.record.specs.declared.Refusal.{Refusal}
 use Rattle.record.proofs.Questions.{Numbered, numbered_append}
 use Rattle.part.specs.File.{trailer_questions, records, records_questions, file_questions, answer_of, check_file}
 use Rattle.part.specs.declared.Summary.{Summary}
-use Rattle.part.specs.declared.Checked.TheVariants.{Refused, Accepted}
 
-pub answer_accepted : (v : Verdict) (file : List ℕ) {part : Summary} → answer_of v file ≡ Accepted part → v ≡ Yes
+pub answer_accepted : (v : Verdict) (file : List ℕ) {part : Summary} → answer_of v file ≡ Ok part → v ≡ Ok tt
 unfolding answer_of
-answer_accepted Yes file e = refl
-answer_accepted (No m) file e = let z : ◌≡◌ {A = ℕ} 0 1 = cc in absurd (omega arith)
+answer_accepted (Ok tt) file e = refl
+answer_accepted (Err m) file e = let z : ◌≡◌ {A = ℕ} 0 1 = cc in absurd (omega arith)
 
-pub answer_refused : (v : Verdict) (file : List ℕ) {n : ℕ} → answer_of v file ≡ Refused n → v ≡ No n
+pub answer_refused : (v : Verdict) (file : List ℕ) {e : Refusal} → answer_of v file ≡ Err e → v ≡ Err e
 unfolding answer_of
-answer_refused Yes file e = let z : ◌≡◌ {A = ℕ} 0 1 = cc in absurd (omega arith)
-answer_refused (No m) file e = cc
+answer_refused (Ok tt) file e = let z : ◌≡◌ {A = ℕ} 0 1 = cc in absurd (omega arith)
+answer_refused (Err m) file e = cc
 
-pub accepted : (file : List ℕ) {part : Summary} → check_file file ≡ Accepted part → first_no (file_questions file) ≡ Yes
+pub accepted : (file : List ℕ) {part : Summary} → check_file file ≡ Ok part → first_no (file_questions file) ≡ Ok tt
 unfolding check_file
 accepted file e = answer_accepted (first_no (file_questions file)) file e
 
-pub refused : (file : List ℕ) {n : ℕ} → check_file file ≡ Refused n → first_no (file_questions file) ≡ No n
+pub refused : (file : List ℕ) {e : Refusal} → check_file file ≡ Err e → first_no (file_questions file) ≡ Err e
 unfolding check_file
 refused file e = answer_refused (first_no (file_questions file)) file e
 

@@ -1,5 +1,6 @@
 -- Bytes before the first record are ignored: a file with more of them is answered, and read, alike.
 -- `leading_ignored lead file long within short : check_file (lead ++ file) ≡ check_file file`, and `leading_nodes` says it of the nodes.
+use Rattle.std.specs.Prelude.{Ok, Err}
 use Prim.Native.Nat.{ℕ, zero, suc, ◌+◌, ◌-◌, ◌≤◌}
 use native.Mathlib.Nat.{add_assoc}
 use native.Mathlib.Omega.{arith}
@@ -10,10 +11,8 @@ use lib.ListN.{length, length-append}
 use lib.Seq.{get_or-append-add}
 use Rattle.exact.proofs.Tests.{true_between}
 use Rattle.record.specs.Bytes.{u16, u32, i16, has_bytes, zeros}
-use Rattle.record.specs.Questions.{first_no}
+use Rattle.record.specs.Questions.{first_no, Verdict}
 use Rattle.record.specs.Record.{node_at, record_at}
-use Rattle.record.specs.declared.Verdict.{Verdict}
-use Rattle.record.specs.declared.Verdict.TheVariants.{Yes, No}
 use Rattle.part.specs.File.{iso, version, distance, marked, trailer_questions, start, count, records_from, records, nodes_from, nodes}
 use Rattle.part.specs.File.{file_questions, answer_of, check_file}
 
@@ -129,5 +128,5 @@ module _ (lead file : List ℕ) where
       leading_ignored = rw questions_moved (same (first_no (file_questions file)))
         where
           same : (v : Verdict) → answer_of v (lead ++ file) ≡ answer_of v file
-          same Yes = rw (count_moved, iso_moved, version_moved)
-          same (No n) = refl
+          same (Ok tt) = rw (count_moved, iso_moved, version_moved)
+          same (Err n) = refl

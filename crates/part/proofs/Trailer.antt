@@ -1,5 +1,6 @@
 -- What an accepted trailer says of the file's numbers: the records lie within it.
 -- `records_end (accepted_trailer file ok) : start file + 12 * count file + 12 ≡ length file`.
+use Rattle.std.specs.Prelude.{Ok}
 use Prim.Native.Nat.{ℕ, ◌+◌, ◌*◌, ◌%◌, ◌≤◌}
 use native.Mathlib.Omega.{arith}
 use mathlib.Core.Path.{◌≡◌}
@@ -11,12 +12,11 @@ use lib.Dec.{leb, eqb}
 use Rattle.exact.specs.Range.{between}
 use Rattle.exact.proofs.Tests.{both_true, between_true}
 use Rattle.record.specs.Questions.{first_no}
-use Rattle.record.specs.declared.Verdict.TheVariants.{Yes}
 use Rattle.record.proofs.Questions.{all_yes, yes_append}
 use Rattle.part.specs.File.{iso, version, distance, trailer_questions, start, count, records, records_questions, file_questions}
 use Rattle.part.specs.Accepted.{Trailer}
 
-pub trailer_facts : (file : List ℕ) → first_no (trailer_questions file) ≡ Yes → Trailer file
+pub trailer_facts : (file : List ℕ) → first_no (trailer_questions file) ≡ Ok tt → Trailer file
 unfolding trailer_questions
 trailer_facts file ok =
     let d = distance file in
@@ -40,7 +40,7 @@ trailer_facts file ok =
       iso_high = iso-ok.1;
     }
 
-pub accepted_trailer : (file : List ℕ) → first_no (file_questions file) ≡ Yes → Trailer file
+pub accepted_trailer : (file : List ℕ) → first_no (file_questions file) ≡ Ok tt → Trailer file
 unfolding file_questions
 accepted_trailer file ok = trailer_facts file (yes_append (trailer_questions file) (records_questions (records file) 0) ok).0
 

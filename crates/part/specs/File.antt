@@ -1,17 +1,16 @@
 -- The part file: its trailer, its records, the check of a file (document 01, "The part file"; questions 1 to 11; document 02, P9).
 use Rattle.std.specs.Prelude.{ℕ, zero, suc, ◌+◌, ◌-◌, ◌/◌, ◌%◌, ◌≡◌, List, [], ◌∷◌, ◌++◌, map, Bool, ◌&&◌, length, leb, eqb}
+use Rattle.std.specs.Prelude.{Result, Ok, Err}
 use Rattle.exact.specs.Range.{between}
 use Rattle.record.specs.Bytes.{u16, u32, has_bytes}
-use Rattle.record.specs.Questions.{Question, first_no}
+use Rattle.record.specs.Questions.{Question, first_no, Verdict}
 use Rattle.record.specs.Nodes.{held_after}
 use Rattle.record.specs.Record.{record_at, record_questions}
 use Rattle.record.specs.declared.Node.{Node}
 use Rattle.record.specs.declared.Record.{Record}
-use Rattle.record.specs.declared.Verdict.{Verdict}
-use Rattle.record.specs.declared.Verdict.TheVariants.{Yes, No}
+use Rattle.record.specs.declared.Refusal.{Refusal}
+use Rattle.record.specs.declared.Refusal.TheVariants as no
 use Rattle.part.specs.declared.Summary.{Summary}
-use Rattle.part.specs.declared.Checked.{Checked}
-use Rattle.part.specs.declared.Checked.TheVariants.{Refused, Accepted}
 
 -- ---- the trailer: the last 12 bytes
 
@@ -39,11 +38,11 @@ marked file = has_bytes file (length file - 4) file_mark
 
 unfoldable pub trailer_questions : List ℕ → List Question
 trailer_questions file =
-    (1, between 24 65536 (length file))
-    ∷ (2, marked file)
-    ∷ (3, version_known (version file))
-    ∷ (4, between 24 6144 (distance file) && eqb (distance file % 12) 0 && leb (distance file) (length file))
-    ∷ (5, between 1 4096 (iso file))
+    (no.Length, between 24 65536 (length file))
+    ∷ (no.Mark, marked file)
+    ∷ (no.Version, version_known (version file))
+    ∷ (no.Distance, between 24 6144 (distance file) && eqb (distance file % 12) 0 && leb (distance file) (length file))
+    ∷ (no.Iso, between 1 4096 (iso file))
     ∷ []
 
 -- ---- the records: 12 bytes each
@@ -74,7 +73,7 @@ nodes file = nodes_from file (count file) (start file)
 
 -- questions 6 to 10 about each record in file order, and then 11 about what is held at the end
 unfoldable pub records_questions : List Record → ℕ → List Question
-records_questions [] held = (11, eqb held 1) ∷ []
+records_questions [] held = (no.Root, eqb held 1) ∷ []
 records_questions (r ∷ later) held = record_questions r held ++ records_questions later (held_after r.node held)
 
 -- questions 1 to 11
@@ -85,16 +84,19 @@ file_questions file = trailer_questions file ++ records_questions (records file)
 abbrev pub summary : List ℕ → Summary
 summary file = record { nodes = count file; iso = iso file; version = version file }
 
--- these, or the refusal number
+-- these, or the refusal
+abbrev pub Checked : Type 0
+Checked = Result Summary Refusal
+
 unfoldable pub answer_of : Verdict → List ℕ → Checked
-answer_of Yes file = Accepted (summary file)
-answer_of (No number) file = Refused number
+answer_of (Ok tt) file = Ok (summary file)
+answer_of (Err refusal) file = Err refusal
 
 unfoldable pub check_file : List ℕ → Checked
 check_file file = answer_of (first_no (file_questions file)) file
 
--- what each case of an answer says: that its number is the first no's; or that no question says no, and the node count, the iso-value and the version
+-- what each case of an answer says: that its refusal is the first no's; or that no question says no, and node count, iso-value and version
 unfoldable pub Says : List ℕ → Checked → Type 0
-Says file (Refused number) = first_no (file_questions file) ≡ No number
-Says file (Accepted part) =
-    (first_no (file_questions file) ≡ Yes) × (part.nodes ≡ count file) × (part.iso ≡ iso file) × (part.version ≡ version file)
+Says file (Err refusal) = first_no (file_questions file) ≡ Err refusal
+Says file (Ok part) =
+    (first_no (file_questions file) ≡ Ok tt) × (part.nodes ≡ count file) × (part.iso ≡ iso file) × (part.version ≡ version file)

@@ -8,8 +8,7 @@ ghost use Rattle.part.specs.File.{iso, version, version_known, distance, marked,
 ghost use Rattle.part.specs.File.{file_questions, check_file, Says};
 ghost use Rattle.part.specs.Accepted.{Trailer};
 
-use exact::{both, is_between};
-use record::{Verdict, ask, held_after, node_at, record_questions_at, u16_at, u32_at};
+use record::{Refusal, ask, held_after, node_at, record_questions_at, u16_at, u32_at};
 
 // What stays the same of an accepted file through a call: its node count, its iso-value and its version, which is 1 or 2.
 #[derive(Clone, Copy)]
@@ -19,15 +18,9 @@ pub struct Summary {
     pub version: usize,
 }
 
-// The check of a file: the refusal number, or the node count, the iso-value and the version.
-#[derive(Clone, Copy)]
-pub enum Checked {
-    Refused(u32),
-    Accepted(Summary),
-}
-
 // ---- the trailer
 
+#[tactic(auto, unfolding(crate::specs::File::iso))]
 fn iso_of(file: &[u8]) -> usize
     requires { 12 ≤ length file.now }
     ensures { result ≡ iso file.now }
@@ -35,6 +28,7 @@ fn iso_of(file: &[u8]) -> usize
     u16_at(file, file.len() - 12)
 }
 
+#[tactic(auto, unfolding(crate::specs::File::version))]
 fn version_of(file: &[u8]) -> usize
     requires { 12 ≤ length file.now }
     ensures { result ≡ version file.now }
@@ -42,6 +36,7 @@ fn version_of(file: &[u8]) -> usize
     u16_at(file, file.len() - 10)
 }
 
+#[tactic(auto, unfolding(crate::specs::File::distance))]
 fn distance_of(file: &[u8]) -> usize
     requires { 12 ≤ length file.now }
     ensures { result ≡ distance file.now }
@@ -53,45 +48,37 @@ fn distance_of(file: &[u8]) -> usize
 pub fn is_known_version(version: usize) -> bool
     ensures { result ≡ version_known version }
 {
-    is_between(1, 2, version)
+    (1..=2).contains(&version)
 }
 
 // Are the last four bytes the mark?
+#[tactic(auto, unfolding(crate::specs::File::marked, record::specs::Bytes::has_bytes))]
 fn is_marked(file: &[u8]) -> bool
     requires { 12 ≤ length file.now }
     ensures { result ≡ marked file.now }
 {
-    let at = file.len() - 4;
-    let t = file[at] == 0x54;
-    let r = file[at + 1] == 0x52;
-    let e = file[at + 2] == 0x45;
-    let f = file[at + 3] == 0x45;
-    both(t, both(r, both(e, f)))
+    file.ends_with(b"TREE")
 }
 
 // Questions 1 to 5.
-fn trailer_questions(file: &[u8]) -> Verdict
+#[tactic(auto, unfolding(crate::specs::File::trailer_questions, record::specs::Questions::first_no))]
+fn trailer_questions(file: &[u8]) -> Result<(), Refusal>
     ensures { result ≡ first_no (trailer_questions file.now) }
 {
     let n = file.len();
-    if !is_between(24, 65536, n) {
-        return Verdict::No(1);
-    }
-    let mark = is_marked(file);
-    let version = is_known_version(version_of(file));
+    ask(Refusal::Length, (24..=65536).contains(&n))?;
+    ask(Refusal::Mark, is_marked(file))?;
+    ask(Refusal::Version, is_known_version(version_of(file)))?;
     let d = distance_of(file);
-    let distance = both(both(is_between(24, 6144, d), d % 12 == 0), d <= n);
-    let iso = is_between(1, 4096, iso_of(file));
-    ask(
-        2,
-        mark,
-        ask(3, version, ask(4, distance, ask(5, iso, Verdict::Yes))),
-    )
+    let whole = (24..=6144).contains(&d) && d % 12 == 0;
+    ask(Refusal::Distance, whole && d <= n)?;
+    ask(Refusal::Iso, (1..=4096).contains(&iso_of(file)))
 }
 
 // ---- the records
 
 // How many records there are before the trailer.
+#[tactic(auto, unfolding(crate::specs::File::count))]
 pub fn count_of(file: &[u8]) -> usize
     requires { Trailer file.now }
     ensures { result ≡ count file.now }
@@ -100,6 +87,7 @@ pub fn count_of(file: &[u8]) -> usize
 }
 
 // Where the first record is.
+#[tactic(auto, unfolding(crate::specs::File::start))]
 pub fn start_of(file: &[u8]) -> usize
     requires { Trailer file.now }
     ensures { result ≡ start file.now }
@@ -108,45 +96,36 @@ pub fn start_of(file: &[u8]) -> usize
 }
 
 // Questions 6 to 10 about each of n records from a place on, and then question 11.
-fn records_questions(file: &[u8], n: usize, first: usize) -> Verdict
+fn records_questions(file: &[u8], n: usize, first: usize) -> Result<(), Refusal>
     requires { first + 12 * n ≤ length file.now }
     ensures { result ≡ first_no (records_questions (records_from file.now n first) 0) }
 {
-    let mut left = n;
-    let mut at = first;
     let mut held = 0;
-    while 0 < left {
-        if let Verdict::No(number) = record_questions_at(file, at, held) {
-            return Verdict::No(number);
-        }
+    for k in 0..n {
+        let at = first + 12 * k;
+        record_questions_at(file, at, held)?;
         held = held_after(node_at(file, at), held);
-        at += 12;
-        left -= 1;
     }
-    ask(11, held == 1, Verdict::Yes)
+    ask(Refusal::Root, held == 1)
 }
 
 // ---- the file
 
 // Questions 1 to 11.
-fn file_questions(file: &[u8]) -> Verdict
+fn file_questions(file: &[u8]) -> Result<(), Refusal>
     ensures { result ≡ first_no (file_questions file.now) }
 {
-    if let Verdict::No(number) = trailer_questions(file) {
-        return Verdict::No(number);
-    }
+    trailer_questions(file)?;
     records_questions(file, count_of(file), start_of(file))
 }
 
 // The check of a file.
-pub fn check(file: &[u8]) -> Checked
+pub fn check(file: &[u8]) -> Result<Summary, Refusal>
     ensures answer { result ≡ check_file file.now }
     ensures says { Says file.now result }
 {
-    if let Verdict::No(number) = file_questions(file) {
-        return Checked::Refused(number);
-    }
-    Checked::Accepted(Summary {
+    file_questions(file)?;
+    Ok(Summary {
         nodes: count_of(file),
         iso: iso_of(file),
         version: version_of(file),

@@ -3,44 +3,18 @@
 
 #![tactic(auto)]
 
-ghost use Rattle.std.specs.Prelude.{◌+◌, ◌≤◌};
-ghost use Rattle.nodes.specs.Numbers.{numbers_room};
+ghost use Rattle.std.specs.Prelude.{◌≤◌};
 
-use listing::{print_number, print_signed, read_full};
+use listing::read_full;
 use nodes::{NUMBERS, load};
-use part::{Checked, Summary};
+use part::Summary;
 use std::io;
 
-// A 32-bit number, and the byte after it.
-fn print_narrow(rt: &impl Print, z: i32, after: u8) -> io::Result<()> {
-    print_signed(rt, b"", z as i64, after)
-}
-
-// Three numbers from a place on, and the byte after them.
-fn print_three(rt: &impl Print, numbers: &[i32; NUMBERS], at: usize, after: u8) -> io::Result<()>
-    requires { at + 3 ≤ numbers_room }
-{
-    print_narrow(rt, numbers[at], b' ')?;
-    print_narrow(rt, numbers[at + 1], b' ')?;
-    print_narrow(rt, numbers[at + 2], after)
-}
-
-// The six numbers from a place on, in one line.
-fn print_node(rt: &impl Print, numbers: &[i32; NUMBERS], at: usize) -> io::Result<()>
-    requires { at + 6 ≤ numbers_room }
-{
-    print_three(rt, numbers, at, b' ')?;
-    print_three(rt, numbers, at + 3, b'\n')
-}
-
-// A line for each of n nodes.
-fn print_nodes(rt: &impl Print, numbers: &[i32; NUMBERS], n: usize) -> io::Result<()>
-    requires { n ≤ 511 }
-{
-    let mut k = 0;
-    while k < n {
-        print_node(rt, numbers, 6 * k)?;
-        k += 1;
+// A line for each six numbers.
+fn print_nodes(rt: &impl Print, numbers: &[i32]) -> io::Result<()> {
+    let (nodes, _) = numbers.as_chunks::<6>();
+    for [kind, r, x, y, z, w] in nodes {
+        println!(rt; "{kind} {r} {x} {y} {z} {w}")?;
     }
     Ok(())
 }
@@ -49,19 +23,21 @@ fn print_nodes(rt: &impl Print, numbers: &[i32; NUMBERS], n: usize) -> io::Resul
 fn print_accepted(rt: &impl Print, part: Summary, numbers: &[i32; NUMBERS]) -> io::Result<()>
     requires { part.nodes ≤ 511 }
 {
-    print_number(rt, b"nodes ", part.nodes as u64, b' ')?;
-    print_number(rt, b"iso ", part.iso as u64, b' ')?;
-    print_number(rt, b"version ", part.version as u64, b'\n')?;
-    print_nodes(rt, numbers, part.nodes)
+    let Summary {
+        nodes,
+        iso,
+        version,
+    } = part;
+    println!(rt; "nodes {nodes} iso {iso} version {version}")?;
+    print_nodes(rt, &numbers[..6 * nodes])
 }
 
 fn main(rt: HostRuntime) -> io::Result<()> {
-    let mut input = [0u8; 65537];
+    let mut input = [0; 65537];
     let n = read_full(&rt, &mut input[..])?;
-    let mut numbers = [0i32; NUMBERS];
-    let answer = load(&input[..n], &mut numbers);
-    match answer {
-        Checked::Refused(number) => print_number(&rt, b"refused ", number as u64, b'\n'),
-        Checked::Accepted(part) => print_accepted(&rt, part, &numbers),
+    let mut numbers = [0; NUMBERS];
+    match load(&input[..n], &mut numbers) {
+        Err(refusal) => println!(rt; "{refusal}"),
+        Ok(part) => print_accepted(&rt, part, &numbers),
     }
 }

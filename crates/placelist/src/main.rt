@@ -4,15 +4,31 @@
 
 #![tactic(auto)]
 
-use bounds::{BoundsAnswer, place_bounds};
-use field::Position;
-use listing::{file_start, print_number, print_signed, read_full};
+ghost use Rattle.std.specs.Prelude.{codes, ◌++◌, Some};
+ghost use Rattle.std.specs.Fmt.{signed_decimal};
+
+use bounds::place_bounds;
+use field::{Bounds, Position};
+use listing::{file_start, read_full};
 use record::i16_at;
-use std::io;
+use std::{fmt, io};
+
+// The line of the bounds at a place.
+#[derive(Clone, Copy)]
+struct Line(Bounds);
+
+impl fmt::Display for Line {
+    ghost output = { λ l. Some (codes "bounds " ++ signed_decimal l.0.low ++ codes " " ++ signed_decimal l.0.high) };
+
+    fn fmt<W: fmt::Write>(&self, f: &mut fmt::Formatter<W>) -> fmt::Result {
+        let Bounds { low, high } = self.0;
+        write!(f, "bounds {low} {high}")
+    }
+}
 
 fn main(rt: HostRuntime) -> io::Result<()> {
     // a place and one byte more than the longest file
-    let mut input = [0u8; 65543];
+    let mut input = [0; 65543];
     let n = read_full(&rt, &mut input[..])?;
     let place = Position {
         x: i16_at(&input[..], 0),
@@ -20,10 +36,7 @@ fn main(rt: HostRuntime) -> io::Result<()> {
         z: i16_at(&input[..], 4),
     };
     match place_bounds(&input[file_start(n, 6)..n], place) {
-        BoundsAnswer::Refused(number) => print_number(&rt, b"refused ", number as u64, b'\n'),
-        BoundsAnswer::Bounded(b) => {
-            print_signed(&rt, b"bounds ", b.low, b' ')?;
-            print_signed(&rt, b"", b.high, b'\n')
-        }
+        Err(refusal) => println!(rt; "{refusal}"),
+        Ok(b) => println!(rt; "{}", Line(b)),
     }
 }

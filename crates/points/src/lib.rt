@@ -11,7 +11,6 @@ ghost use Rattle.field.specs.Reach.{nearer_at, reaches};
 ghost use Rattle.points.specs.Ranges.{PreparedRanges, SpanRanges};
 ghost use Rattle.points.specs.Peak.{peak_of, ReachedRanges};
 
-use exact::{max_u64, min_u64};
 use field::{Bounds, Prepared, Span};
 use part::Summary;
 
@@ -90,12 +89,12 @@ pub fn reaches(a: i64, p: Prepared, s: Span) -> bool
     let distance = foot_distance(a, p);
     let radius = foot_radius(a, p);
     if radius < distance {
-        return false;
+        false
+    } else if foot_inside(a, p, s) {
+        distance < radius
+    } else {
+        nearer_at(a, p, s.from, s.ticks) || nearer_at(a, p, s.to, s.ticks)
     }
-    if foot_inside(a, p, s) {
-        return distance < radius;
-    }
-    nearer_at(a, p, s.from, s.ticks) || nearer_at(a, p, s.to, s.ticks)
 }
 
 // The same of a point that the whole ray reaches, by whether the nearest place is strictly inside the span, by r² and by the squared distances at its
@@ -103,37 +102,27 @@ pub fn reaches(a: i64, p: Prepared, s: Span) -> bool
 fn comes_within(foot: bool, whole: u64, i: u64, j: u64) -> bool
     ensures { result ≡ (foot || (ltb i whole || ltb j whole)) }
 {
-    if foot {
-        return true;
-    }
-    if i < whole {
-        return true;
-    }
-    j < whole
+    foot || i < whole || j < whole
 }
 
 // ---- bounds
 
 // 65536 (1 - d/s) rounded down, and 0 where d is s or more.
+#[tactic(auto, unfolding(field::specs::Bounds::low_q))]
 fn low_q(s: u64, d: u64) -> u64
     requires { (0 < s) × (s ≤ 2 ^ 46) }
     ensures { result ≡ low_q s d }
 {
-    if s <= d {
-        return 0;
-    }
-    65536 * (s - d) / s
+    65536 * s.saturating_sub(d) / s
 }
 
 // The same, rounded up.
+#[tactic(auto, using(crate::proofs::Ceilings::div_ceil_is), unfolding(field::specs::Bounds::high_q))]
 fn high_q(s: u64, d: u64) -> u64
     requires { (0 < s) × (s ≤ 2 ^ 46) }
     ensures { result ≡ high_q s d }
 {
-    if s <= d {
-        return 0;
-    }
-    (65536 * (s - d) + (s - 1)) / s
+    (65536 * s.saturating_sub(d)).div_ceil(s)
 }
 
 // 65536 times u, rounded up, at the place nearest the centre.
@@ -147,9 +136,10 @@ pub fn peak(a: i64, p: Prepared) -> i64
         ticks: 1,
     };
     if foot_inside(a, p, whole) {
-        return high_q(foot_radius(a, p), foot_distance(a, p)) as i64;
+        high_q(foot_radius(a, p), foot_distance(a, p)) as i64
+    } else {
+        0
     }
-    0
 }
 
 // 65536 times the greatest u, rounded up: at the nearest place where that is inside, and else at the nearer end.
@@ -158,10 +148,7 @@ fn greatest_q(foot: bool, peak: i64, whole: u64, d: u64) -> u64
     requires whole_nonzero { (0 < whole) × (whole ≤ 2 ^ 46) }
     ensures { result ≡ cond foot (nat_abs peak) (high_q whole d) }
 {
-    if foot {
-        return peak as u64;
-    }
-    high_q(whole, d)
+    if foot { peak as u64 } else { high_q(whole, d) }
 }
 
 // The weight times a lesser and a greater size.
@@ -187,14 +174,14 @@ fn weigh_sizes(part: Summary, w: i64, low: u64, high: u64) -> Bounds
     requires { Small 4096 w × (low ≤ 65536) × (high ≤ 65536) }
     ensures { result ≡ weighted w ((kernel_of part).low low) ((kernel_of part).high high) }
 {
-    if part.version == 2 {
-        return weigh(
+    match part.version {
+        2 => weigh(
             w,
             low * low * low / 65536,
-            (high * high * high + 65535) / 65536,
-        );
+            (high * high * high).div_ceil(65536),
+        ),
+        _ => weigh(w, low * low, high * high),
     }
-    weigh(w, low * low, high * high)
 }
 
 // The bounds of a point over a span. Out of reach, both q are 0.
@@ -208,10 +195,13 @@ pub fn span_bounds(part: Summary, a: i64, p: Reached, s: Span) -> Bounds
     let i = distance_at(a, point, s.from, s.ticks);
     let j = distance_at(a, point, s.to, s.ticks);
     let foot = foot_inside(a, point, s);
-    if !comes_within(foot, whole, i, j) {
-        return Bounds { low: 0, high: 0 };
+    if comes_within(foot, whole, i, j) {
+        let nearer = i.min(j);
+        let farther = i.max(j);
+        let low = low_q(whole, farther);
+        let high = greatest_q(foot, p.peak, whole, nearer);
+        weigh_sizes(part, point.weight, low, high)
+    } else {
+        Bounds { low: 0, high: 0 }
     }
-    let low = low_q(whole, max_u64(i, j));
-    let high = greatest_q(foot, p.peak, whole, min_u64(i, j));
-    weigh_sizes(part, point.weight, low, high)
 }

@@ -10,10 +10,10 @@ ghost use Rattle.raylist.specs.Input.{position_at};
 ghost use Rattle.raylist.specs.Runs.{Run};
 
 use cast::full_cast;
-use field::{CROSSING, EMPTY, INSIDE, Position, Ray};
-use halving::CastAnswer;
-use listing::{file_start, print_number, read_full};
-use record::{i16_at, u16_at};
+use field::{NotLookedAt, Position, Ray, State};
+use halving::Cast;
+use listing::{file_start, read_full};
+use record::{Refusal, i16_at, u16_at};
 use std::io;
 
 // The place whose three numbers stand from a byte on.
@@ -33,22 +33,20 @@ fn run_end(marks: &[u8], first: usize) -> usize
     requires { first < length marks.now }
     ensures { Run marks.now first result }
 {
-    let mut after = first + 1;
-    while after < marks.len() && marks[after] == marks[first] {
-        after += 1;
+    for after in first + 1..marks.len() {
+        if marks[after] != marks[first] {
+            return after;
+        }
     }
-    after
+    marks.len()
 }
 
 // The line of a run; ticks not looked at make none.
 fn print_run(rt: &impl Print, mark: u8, first: usize, after: usize) -> io::Result<()> {
-    match mark {
-        EMPTY => print_number(rt, b"empty ", first as u64, b' ')?,
-        CROSSING => print_number(rt, b"crossing ", first as u64, b' ')?,
-        INSIDE => print_number(rt, b"inside ", first as u64, b' ')?,
-        _ => return Ok(()),
+    match State::try_from(mark) {
+        Ok(state) => println!(rt; "{state} {first} {after}"),
+        Err(NotLookedAt) => Ok(()),
     }
-    print_number(rt, b"", after as u64, b'\n')
 }
 
 // A line for each run.
@@ -63,17 +61,11 @@ fn print_runs(rt: &impl Print, marks: &[u8]) -> io::Result<()> {
 }
 
 // The last line.
-fn print_answer(rt: &impl Print, answer: CastAnswer) -> io::Result<()> {
+fn print_answer(rt: &impl Print, answer: Result<Cast, Refusal>) -> io::Result<()> {
     match answer {
-        CastAnswer::Refused(number) => print_number(rt, b"refused ", number as u64, b'\n'),
-        CastAnswer::Complete { probes } => {
-            print_number(rt, b"probes ", probes as u64, b' ')?;
-            rt.write_all(b"complete\n")
-        }
-        CastAnswer::Spent { tick, probes } => {
-            print_number(rt, b"probes ", probes as u64, b' ')?;
-            print_number(rt, b"spent ", tick as u64, b'\n')
-        }
+        Err(refusal) => println!(rt; "{refusal}"),
+        Ok(Cast::Complete { probes }) => println!(rt; "probes {probes} complete"),
+        Ok(Cast::Spent { tick, probes }) => println!(rt; "probes {probes} spent {tick}"),
     }
 }
 

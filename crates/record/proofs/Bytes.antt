@@ -1,21 +1,14 @@
--- Laws of the numbers in bytes, as the code's tests and signed sums need them.
--- `zeros-after file at` has the 11 bytes after a place as the code asks for them; `signed_read n h` is a signed 16-bit number as the code has it.
-use Prim.Native.Nat.{ℕ, zero, suc, ◌+◌, ◌-◌, ◌%◌, ◌<◌}
-use native.Mathlib.Nat.{add-zero, zero-add, add-suc, suc-add, mod-le}
+-- Laws of zero bytes, as the code asks for them: `zeros-after file at` has the 11 bytes after a place as four numbers.
+use Prim.Native.Nat.{ℕ, zero, suc, ◌+◌}
+use native.Mathlib.Nat.{add-zero, zero-add, add-suc, suc-add}
 use native.Mathlib.Numerals.{add-one}
-use native.Mathlib.Decide.{dec_lt}
 use native.Mathlib.Omega.{arith}
 use mathlib.Core.Path.{◌≡◌, ◌∙◌}
 use mathlib.Core.List.{List}
-use mathlib.Core.Bool.{◌&&◌, cond, and-true, and_assoc}
-use borrow.Author.Tests.{eq-eqb, eqb-true, lt-ltb, le-ltb}
-use lib.IntN.{pos, ◌-ℤ◌}
-use lib.Dec.{eqb, ltb}
-use mir.Syntax.{w32}
-use mir.Val.{SFits, to_z}
-use mir.Facts.{to_z_pos, to_z-of_z}
+use mathlib.Core.Bool.{◌&&◌, and-true, and_assoc}
+use borrow.Author.Tests.{eq-eqb, eqb-true}
+use lib.Dec.{eqb}
 use Rattle.exact.proofs.Tests.{both_true, true_both, same_test}
-use Rattle.exact.proofs.Machine.{fit, from_u, lit, ◌⊟◌, back}
 use Rattle.record.specs.Bytes.{byte, u16, u32, has_bytes, zeros}
 
 -- two numbers are zero exactly where one made of them is
@@ -71,28 +64,3 @@ module _ (file : List ℕ) where
         zeros_4 (at + 4),
         zeros_4 (at + 8),
       )
-
--- ---- a signed 16-bit number
-
--- a remainder of what is added, less 32768, fits 32 bits
-pub signed_fits : (n d : ℕ) → n < 65536 → SFits w32 (to_z w32 ((n + 32768) % d) -ℤ pos 32768)
-signed_fits n d h = fit (from_u {k = 98303} {n = (n + 32768) % d} (omega (arith, mod-le (n + 32768) d)) tt ⊟ lit (pos 32768)) tt
-
-module _ (n : ℕ) (h : n < 65536) where
-  signed : pos ((n + 32768) % 65536) -ℤ pos 32768 ≡ cond (ltb n 32768) (pos n) (pos n -ℤ pos 65536)
-  signed = elim (dec_lt n 32768) [
-    | yes l ↦
-        let m : (n + 32768) % 65536 ≡ n + 32768 = omega arith in
-        let e : n + 32768 - 32768 ≡ n = omega arith in
-        rw (m, lt-ltb n 32768 l, le-ltb (n + 32768) 32768 (omega arith), e)
-    | no g ↦
-        let m : (n + 32768) % 65536 ≡ n - 32768 = omega arith in
-        let e : 32768 - suc (n - 32768) ≡ 65536 - suc n = omega arith in
-        rw (m, le-ltb n 32768 (omega arith), lt-ltb (n - 32768) 32768 (omega arith), lt-ltb n 65536 h, e)
-  ]
-
-  -- it is read as it is
-  pub signed_read : back w32 (to_z w32 ((n + 32768) % 65536) -ℤ pos 32768) ≡ cond (ltb n 32768) (pos n) (pos n -ℤ pos 65536)
-  signed_read =
-      let m = (n + 32768) % 65536 in
-      to_z-of_z (signed_fits n 65536 h) ∙ rw (to_z_pos w32 {n = m} (omega arith)) signed

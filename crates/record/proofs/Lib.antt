@@ -1,4 +1,3 @@
 pub mod Questions
 pub mod Bytes
 pub mod Ranges
-pub mod Records

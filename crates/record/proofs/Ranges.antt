@@ -1,5 +1,6 @@
 -- What the questions about a record say of its node, once all are answered yes: `ready`.
 -- `((ready r held ok).point p).1 : held < 64`, from `ok`, that all questions about r are answered yes, and `p`, that it is a point.
+use Rattle.std.specs.Prelude.{Ok}
 use Prim.Native.Nat.{ℕ}
 use mathlib.Core.Path.{◌≡◌}
 use mathlib.Core.Bool.{Bool, true, false, ◌&&◌}
@@ -14,7 +15,6 @@ use Rattle.record.specs.Record.{node_questions, record_questions}
 use Rattle.record.specs.Ranges.{PointRanges, Ready}
 use Rattle.record.specs.declared.Node.{Node}
 use Rattle.record.specs.declared.Record.{Record}
-use Rattle.record.specs.declared.Verdict.TheVariants.{Yes}
 use Rattle.record.proofs.Questions.{all_yes}
 
 point_ranges : (n : Node) → in_range n ≡ true → PointRanges n
@@ -46,7 +46,7 @@ pub for_operator_lem : (n : Node) (test : Bool) → for_operator n test ≡ true
 unfolding for_operator
 for_operator_lem n test e p = rw p at e
 
-pub ready : (r : Record) (held : ℕ) → first_no (record_questions r held) ≡ Yes → Ready r.node held
+pub ready : (r : Record) (held : ℕ) → first_no (record_questions r held) ≡ Ok tt → Ready r.node held
 unfolding record_questions node_questions kind_known
 ready r held ok =
     let n = r.node in

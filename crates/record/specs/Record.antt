@@ -5,6 +5,7 @@ use Rattle.record.specs.Questions.{Question}
 use Rattle.record.specs.Nodes.{is_point, kind_known, in_range, for_point, for_operator}
 use Rattle.record.specs.declared.Node.{Node}
 use Rattle.record.specs.declared.Record.{Record}
+use Rattle.record.specs.declared.Refusal.TheVariants as no
 
 -- the six numbers of the record at a place
 unfoldable pub node_at : List ℕ → ℕ → Node
@@ -27,11 +28,11 @@ record_at file at = record { node = node_at file at; zeroed = zeros file (at + 1
 -- 8 to 10, about a node with so many values held before it
 unfoldable pub node_questions : Node → ℕ → List Question
 node_questions n held =
-    (8, for_point n (in_range n))
-    ∷ (9, for_operator n (leb 2 held))
-    ∷ (10, for_point n (ltb held 64))
+    (no.Point, for_point n (in_range n))
+    ∷ (no.Operands, for_operator n (leb 2 held))
+    ∷ (no.Depth, for_point n (ltb held 64))
     ∷ []
 
 -- 6 to 10, about a record
 unfoldable pub record_questions : Record → ℕ → List Question
-record_questions r held = (6, kind_known r.node) ∷ (7, r.zeroed) ∷ node_questions r.node held
+record_questions r held = (no.Kind, kind_known r.node) ∷ (no.ZeroBytes, r.zeroed) ∷ node_questions r.node held

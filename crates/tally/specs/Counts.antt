@@ -1,16 +1,12 @@
 -- The running totals after a call (document 01, "Calls"; document 02, P4).
-use Rattle.std.specs.Prelude.{ℕ, ◌+◌, min}
-use Rattle.halving.specs.declared.CastAnswer.{CastAnswer}
-use Rattle.halving.specs.declared.CastAnswer.TheVariants as cast
-use Rattle.halving.specs.declared.HitAnswer.{HitAnswer}
-use Rattle.halving.specs.declared.HitAnswer.TheVariants as found
-use Rattle.cast.specs.declared.ColumnAnswer.{ColumnAnswer}
-use Rattle.cast.specs.declared.ColumnAnswer.TheVariants as column
+use Rattle.std.specs.Prelude.{ℕ, ◌+◌, min, Option, Some, None, Ok, Err}
+use Rattle.halving.specs.declared.Cast.TheVariants as cast
+use Rattle.halving.specs.declared.FirstHit.TheVariants as found
+use Rattle.halving.specs.Answers.{CastAnswer, HitAnswer}
 use Rattle.view.specs.declared.ViewAnswer.{ViewAnswer}
 use Rattle.view.specs.declared.ViewAnswer.TheVariants as view
 use Rattle.tally.specs.declared.Totals.{Totals}
-use Rattle.tally.specs.declared.Tally.{Tally}
-use Rattle.tally.specs.declared.Tally.TheVariants.{Cast, Refused}
+use Rattle.cast.specs.Column.{ColumnAnswer}
 
 -- "the 64-bit maximum", 2⁶⁴ − 1
 abbrev pub ceiling : ℕ
@@ -20,33 +16,37 @@ ceiling = 18446744073709551615
 unfoldable pub capped : ℕ → ℕ
 capped n = min n ceiling
 
+-- what a call adds: a cast with its probes, or nothing but a refusal
+abbrev pub Tally : Type 0
+Tally = Option ℕ
+
 -- "adds one to casts and its probes to probes, or, refused, one to refusals"
 unfoldable pub after_tally : Totals → Tally → Totals
-after_tally t (Cast probes) = record { casts = capped (t.casts + 1); probes = capped (t.probes + probes); refusals = t.refusals }
-after_tally t Refused = record { casts = t.casts; probes = t.probes; refusals = capped (t.refusals + 1) }
+after_tally t (Some probes) = record { casts = capped (t.casts + 1); probes = capped (t.probes + probes); refusals = t.refusals }
+after_tally t None = record { casts = t.casts; probes = t.probes; refusals = capped (t.refusals + 1) }
 
 -- ---- what each case of an answer adds
 
 unfoldable pub cast_tally : CastAnswer → Tally
-cast_tally (cast.Refused number) = Refused
-cast_tally (cast.Complete probes) = Cast probes
-cast_tally (cast.Spent tick probes) = Cast probes
+cast_tally (Err refusal) = None
+cast_tally (Ok (cast.Complete probes)) = Some probes
+cast_tally (Ok (cast.Spent tick probes)) = Some probes
 
 unfoldable pub hit_tally : HitAnswer → Tally
-hit_tally (found.Refused number) = Refused
-hit_tally (found.Hit tick mark probes) = Cast probes
-hit_tally (found.Clear probes) = Cast probes
-hit_tally (found.Spent tick probes) = Cast probes
+hit_tally (Err refusal) = None
+hit_tally (Ok (found.Hit tick mark probes)) = Some probes
+hit_tally (Ok (found.Clear probes)) = Some probes
+hit_tally (Ok (found.Spent tick probes)) = Some probes
 
 unfoldable pub column_tally : ColumnAnswer → Tally
-column_tally (column.Refused number) = Refused
-column_tally (column.Complete probes) = Cast probes
+column_tally (Err refusal) = None
+column_tally (Ok probes) = Some probes
 
 unfoldable pub view_tally : ViewAnswer → Tally
-view_tally (view.Refused number) = Refused
-view_tally (view.Hit entry mark probes) = Cast probes
-view_tally (view.Clear probes) = Cast probes
-view_tally (view.Spent place probes) = Cast probes
+view_tally (view.Refused refusal) = None
+view_tally (view.Hit entry mark probes) = Some probes
+view_tally (view.Clear probes) = Some probes
+view_tally (view.Spent place probes) = Some probes
 
 -- ---- each total by itself
 
@@ -62,9 +62,9 @@ total refusals_total t = t.refusals
 
 -- what a tally adds to it, whatever the ceiling
 unfoldable pub adds : Total → Tally → ℕ
-adds casts_total (Cast probes) = 1
-adds probes_total (Cast probes) = probes
-adds refusals_total (Cast probes) = 0
-adds casts_total Refused = 0
-adds probes_total Refused = 0
-adds refusals_total Refused = 1
+adds casts_total (Some probes) = 1
+adds probes_total (Some probes) = probes
+adds refusals_total (Some probes) = 0
+adds casts_total None = 0
+adds probes_total None = 0
+adds refusals_total None = 1

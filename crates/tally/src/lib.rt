@@ -3,17 +3,14 @@
 
 #![tactic(auto)]
 
-ghost use Rattle.std.specs.Prelude.{◌≡◌, ◌+◌, length};
+ghost use Rattle.std.specs.Prelude.{◌≡◌, ◌+◌, ℕ, Option, length};
 ghost use Rattle.tally.specs.Counts.{capped, after_tally, cast_tally, hit_tally, column_tally, view_tally};
+ghost use Rattle.tally.specs.Lent.{totals_in, totals_out};
 ghost use Rattle.tally.specs.Saved.{saved_totals, read_saved, SavedSays, after_saved};
 
-use cast::ColumnAnswer;
-use halving::{CastAnswer, HitAnswer};
-use record::u32_at;
+use halving::{Cast, FirstHit};
+use record::{Refusal, ask, u32_at};
 use view::ViewAnswer;
-
-// The greatest total, 2⁶⁴ - 1.
-pub const CEILING: u64 = 18446744073709551615;
 
 // The running totals.
 #[derive(Clone, Copy)]
@@ -23,102 +20,108 @@ pub struct Totals {
     pub refusals: u64,
 }
 
-// What a call adds to them: a cast with its probes, or a refusal.
-#[derive(Clone, Copy)]
-pub enum Tally {
-    Cast(u32),
-    Refused,
+// The same as a host in C lends them.
+impl From<[u64; 3]> for Totals {
+    ghost from_gives = { λ lent totals. totals ≡ totals_in lent };
+
+    #[tactic(auto, unfolding(crate::specs::Lent::totals_in))]
+    fn from([casts, probes, refusals]: [u64; 3]) -> Totals {
+        Totals {
+            casts,
+            probes,
+            refusals,
+        }
+    }
 }
 
-// What a saved record is answered: the refusal number, or its totals.
-#[derive(Clone, Copy)]
-pub enum Saved {
-    Refused(u32),
-    Read(Totals),
+impl From<Totals> for [u64; 3] {
+    ghost from_gives = { λ totals lent. lent ≡ totals_out totals };
+
+    fn from(totals: Totals) -> [u64; 3] {
+        [totals.casts, totals.probes, totals.refusals]
+    }
 }
 
-// A sum that stays at the ceiling.
+// A sum that stays at the ceiling, 2⁶⁴ - 1.
 #[tactic(auto, unfolding(crate::specs::Counts::capped))]
 fn capped_sum(total: u64, more: u64) -> u64
     ensures { result ≡ capped (total + more) }
 {
-    if total <= CEILING - more {
-        total + more
-    } else {
-        CEILING
-    }
+    total.saturating_add(more)
 }
 
-// The totals after a call.
+// The totals after a call that made so many probes, or was refused.
 #[tactic(auto, unfolding(crate::specs::Counts::after_tally))]
-pub fn count(totals: Totals, tally: Tally) -> Totals
+pub fn count(totals: Totals, tally: Option<u32>) -> Totals
     ensures { result ≡ after_tally totals tally }
 {
     match tally {
-        Tally::Cast(probes) => Totals {
+        Some(probes) => Totals {
             casts: capped_sum(totals.casts, 1),
             probes: capped_sum(totals.probes, probes as u64),
-            refusals: totals.refusals,
+            ..totals
         },
-        Tally::Refused => Totals {
-            casts: totals.casts,
-            probes: totals.probes,
+        None => Totals {
             refusals: capped_sum(totals.refusals, 1),
+            ..totals
         },
     }
 }
 
-// What an answer adds.
-#[tactic(auto, unfolding(crate::specs::Counts::cast_tally))]
-pub fn cast_tally(answer: CastAnswer) -> Tally
-    ensures { result ≡ cast_tally answer }
-{
-    match answer {
-        CastAnswer::Refused(_) => Tally::Refused,
-        CastAnswer::Complete { probes } => Tally::Cast(probes),
-        CastAnswer::Spent { tick: _, probes } => Tally::Cast(probes),
+// What an answer adds: its probes, or none if it is refused.
+pub trait Tallied {
+    ghost tally: { Self → Option ℕ };
+
+    fn tally(self) -> Option<u32>
+        ensures { result ≡ tally self };
+}
+
+impl Tallied for Result<Cast, Refusal> {
+    ghost tally = { cast_tally };
+
+    #[tactic(auto, unfolding(crate::specs::Counts::cast_tally))]
+    fn tally(self) -> Option<u32> {
+        let cast = self.ok()?;
+        match cast {
+            Cast::Complete { probes } | Cast::Spent { probes, .. } => Some(probes),
+        }
     }
 }
 
-#[tactic(auto, unfolding(crate::specs::Counts::hit_tally))]
-pub fn hit_tally(answer: HitAnswer) -> Tally
-    ensures { result ≡ hit_tally answer }
-{
-    match answer {
-        HitAnswer::Refused(_) => Tally::Refused,
-        HitAnswer::Hit {
-            tick: _,
-            mark: _,
-            probes,
-        } => Tally::Cast(probes),
-        HitAnswer::Clear { probes } => Tally::Cast(probes),
-        HitAnswer::Spent { tick: _, probes } => Tally::Cast(probes),
+impl Tallied for Result<FirstHit, Refusal> {
+    ghost tally = { hit_tally };
+
+    #[tactic(auto, unfolding(crate::specs::Counts::hit_tally))]
+    fn tally(self) -> Option<u32> {
+        let found = self.ok()?;
+        match found {
+            FirstHit::Hit { probes, .. }
+            | FirstHit::Clear { probes }
+            | FirstHit::Spent { probes, .. } => Some(probes),
+        }
     }
 }
 
-#[tactic(auto, unfolding(crate::specs::Counts::column_tally))]
-pub fn column_tally(answer: ColumnAnswer) -> Tally
-    ensures { result ≡ column_tally answer }
-{
-    match answer {
-        ColumnAnswer::Refused(_) => Tally::Refused,
-        ColumnAnswer::Complete { probes } => Tally::Cast(probes),
+impl Tallied for Result<u32, Refusal> {
+    ghost tally = { column_tally };
+
+    #[tactic(auto, unfolding(crate::specs::Counts::column_tally))]
+    fn tally(self) -> Option<u32> {
+        self.ok()
     }
 }
 
-#[tactic(auto, unfolding(crate::specs::Counts::view_tally))]
-pub fn view_tally(answer: ViewAnswer) -> Tally
-    ensures { result ≡ view_tally answer }
-{
-    match answer {
-        ViewAnswer::Refused(_) => Tally::Refused,
-        ViewAnswer::Hit {
-            entry: _,
-            mark: _,
-            probes,
-        } => Tally::Cast(probes),
-        ViewAnswer::Clear { probes } => Tally::Cast(probes),
-        ViewAnswer::Spent { place: _, probes } => Tally::Cast(probes),
+impl Tallied for ViewAnswer {
+    ghost tally = { view_tally };
+
+    #[tactic(auto, unfolding(crate::specs::Counts::view_tally))]
+    fn tally(self) -> Option<u32> {
+        match self {
+            ViewAnswer::Refused(_) => None,
+            ViewAnswer::Hit { probes, .. }
+            | ViewAnswer::Clear { probes }
+            | ViewAnswer::Spent { probes, .. } => Some(probes),
+        }
     }
 }
 
@@ -138,23 +141,18 @@ fn saved_totals(saved: &[u8]) -> Totals
 }
 
 // Question 18, and the totals.
-pub fn read_saved(saved: &[u8]) -> Saved
+pub fn read_saved(saved: &[u8]) -> Result<Totals, Refusal>
     ensures answer { result ≡ read_saved saved.now }
     ensures says { SavedSays saved.now result }
 {
-    if saved.len() != 12 {
-        return Saved::Refused(18);
-    }
-    Saved::Read(saved_totals(saved))
+    ask(Refusal::SavedLength, saved.len() == 12)?;
+    Ok(saved_totals(saved))
 }
 
 // The record in use after a saved one: the saved totals, or, where it is refused, what it was.
 #[tactic(auto, unfolding(crate::specs::Saved::after_saved))]
-pub fn restored(totals: Totals, saved: Saved) -> Totals
+pub fn restored(totals: Totals, saved: Result<Totals, Refusal>) -> Totals
     ensures { result ≡ after_saved totals saved }
 {
-    match saved {
-        Saved::Refused(_) => totals,
-        Saved::Read(read) => read,
-    }
+    saved.unwrap_or(totals)
 }

@@ -6,7 +6,7 @@ use native.Mathlib.Omega.{arith}
 use lib.ListN.{length}
 use Rattle.field.specs.Solid.{solid_of}
 use Rattle.cast.specs.Ticks.{exponent}
-use Rattle.view.specs.declared.ViewRay.{ViewRay}
+use Rattle.view.specs.Ray.{ViewRay}
 use Rattle.view.specs.declared.ViewAnswer.{ViewAnswer}
 use Rattle.view.specs.Call.{viewer_first_hit}
 use Rattle.tally.specs.declared.Totals.{Totals}
@@ -15,7 +15,7 @@ use Rattle.totals.specs.declared.Call.TheVariants as call
 use Rattle.totals.specs.declared.Answer.{Answer}
 use Rattle.totals.specs.Calls.{answer_to, bytes_left, Demanded, Performed, totals_after, view_to, Viewed, totals_after_view}
 use Rattle.totals.specs.Numbers.{number_of, NumberFits}
-use Rattle.numbers.specs.Numbers.{totals_in, totals_out}
+use Rattle.tally.specs.Lent.{totals_in, totals_out}
 use Rattle.numbers.proofs.Numbers.{cast_number_fits, hit_number_fits, column_number_fits}
 use Rattle.testhost.specs.Entries.{view_call_of}
 

@@ -1,7 +1,7 @@
 -- Which call it is that the tests hand over.
 use Rattle.std.specs.Prelude.{cond, ℕ, eqb}
-use Rattle.field.specs.declared.Ray.{Ray}
-use Rattle.view.specs.declared.ViewRay.{ViewRay}
+use Rattle.field.specs.Vectors.{Ray}
+use Rattle.view.specs.Ray.{ViewRay}
 use Rattle.totals.specs.declared.Call.{Call}
 use Rattle.totals.specs.declared.Call.TheVariants as call
 use Rattle.totals.specs.declared.ViewCall.{ViewCall}

@@ -9,14 +9,13 @@ ghost use Rattle.view.specs.Numbers.{view_number, view_place};
 ghost use Rattle.tally.specs.Saved.{read_saved};
 ghost use Rattle.totals.specs.Calls.{answer_to, bytes_left, totals_after, totals_after_view, totals_restored};
 ghost use Rattle.totals.specs.Numbers.{number_of, NumberFits};
-ghost use Rattle.numbers.specs.Numbers.{ray_of, view_ray_of, totals_in, totals_out, saved_number};
+ghost use Rattle.tally.specs.Lent.{totals_in, totals_out};
+ghost use Rattle.numbers.specs.Numbers.{ray_of, view_ray_of, saved_number};
 ghost use Rattle.testhost.specs.Entries.{call_of, view_call_of};
 
 use field::Ray;
-use numbers::{
-    CASE, cast_number, column_number, hit_number, put_totals, ray_of, saved_number, totals_in,
-    view_ray_of,
-};
+use numbers::{CASE, cast_number, column_number, hit_number, ray_of, saved_number};
+use tally::Totals;
 use totals::{Answer, Call, ViewCall, perform_by_value, restore_by_value, view_by_value};
 use view::ViewAnswer;
 
@@ -25,14 +24,10 @@ fn view_number(answer: ViewAnswer) -> u64
     ensures { result ≡ view_number answer }
 {
     match answer {
-        ViewAnswer::Refused(number) => number as u64,
-        ViewAnswer::Hit {
-            entry: _,
-            mark,
-            probes,
-        } => mark as u64 * CASE + probes as u64,
+        ViewAnswer::Refused(refusal) => refusal.number() as u64,
+        ViewAnswer::Hit { mark, probes, .. } => mark as u64 * CASE + probes as u64,
         ViewAnswer::Clear { probes } => 3 * CASE + probes as u64,
-        ViewAnswer::Spent { place: _, probes } => 4 * CASE + probes as u64,
+        ViewAnswer::Spent { probes, .. } => 4 * CASE + probes as u64,
     }
 }
 
@@ -41,14 +36,9 @@ fn place_in(answer: ViewAnswer) -> f32
     ensures { result ≡ view_place answer }
 {
     match answer {
-        ViewAnswer::Refused(_) => 0.0,
-        ViewAnswer::Hit {
-            entry,
-            mark: _,
-            probes: _,
-        } => entry,
-        ViewAnswer::Clear { probes: _ } => 0.0,
-        ViewAnswer::Spent { place, probes: _ } => place,
+        ViewAnswer::Refused(_) | ViewAnswer::Clear { .. } => 0.0,
+        ViewAnswer::Hit { entry, .. } => entry,
+        ViewAnswer::Spent { place, .. } => place,
     }
 }
 
@@ -69,24 +59,11 @@ fn number_of(answer: Answer) -> u64
 fn call_of(which: u32, ray: Ray, budget: u32) -> Call
     ensures { result ≡ call_of which ray budget }
 {
-    if which == 0 {
-        return Call::FullCast {
-            ray: ray,
-            budget: budget,
-        };
-    }
-    if which == 1 {
-        return Call::FirstHit {
-            ray: ray,
-            budget: budget,
-        };
-    }
-    if which == 2 {
-        return Call::Column { ray: ray };
-    }
-    Call::MarchingCast {
-        ray: ray,
-        budget: budget,
+    match which {
+        0 => Call::FullCast { ray, budget },
+        1 => Call::FirstHit { ray, budget },
+        2 => Call::Column { ray },
+        _ => Call::MarchingCast { ray, budget },
     }
 }
 
@@ -114,10 +91,9 @@ pub extern "C" fn testhost_call(
         (length buffer.old) (totals_in totals.old)) }
 {
     let call = call_of(which, ray_of(ax, ay, az, bx, by, bz), budget);
-    let counted = perform_by_value(file, call, buffer, totals_in(totals));
-    put_totals(counted.totals, totals);
-    let answer = counted.answer;
-    number_of(answer)
+    let counted = perform_by_value(file, call, buffer, Totals::from(*totals));
+    *totals = counted.totals.into();
+    number_of(counted.answer)
 }
 
 // Viewer's first hit, with the totals read from three numbers and stored there; its number and its place.
@@ -140,11 +116,11 @@ pub extern "C" fn testhost_view(
         (totals_after_view file.now (view_call_of (view_ray_of ax ay az bx by bz) budget) (totals_in totals.old)) }
 {
     let call = ViewCall {
-        ray: view_ray_of(ax, ay, az, bx, by, bz),
-        budget: budget,
+        ray: ray_of(ax, ay, az, bx, by, bz),
+        budget,
     };
-    let counted = view_by_value(file, call, totals_in(totals));
-    put_totals(counted.totals, totals);
+    let counted = view_by_value(file, call, Totals::from(*totals));
+    *totals = counted.totals.into();
     let answer = counted.answer;
     *place = [place_in(answer)];
     view_number(answer)
@@ -156,8 +132,7 @@ pub extern "C" fn testhost_restore(saved: &[u8], totals: &mut [u64; 3]) -> u32
     ensures answer { result ≡ saved_number (read_saved saved.now) }
     ensures restored { totals.new ≡ totals_out (totals_restored saved.now (totals_in totals.old)) }
 {
-    let restored = restore_by_value(saved, totals_in(totals));
-    put_totals(restored.totals, totals);
-    let answer = restored.answer;
-    saved_number(answer)
+    let restored = restore_by_value(saved, Totals::from(*totals));
+    *totals = restored.totals.into();
+    saved_number(restored.answer)
 }

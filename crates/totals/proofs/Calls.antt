@@ -1,30 +1,27 @@
 -- What each call promises is what `Performed` or `Viewed` says of it, and of a saved record `Answered`. And laws of a call and the totals after it.
-use mathlib.Core.Path.{◌≡◌, refl, ap, sym, ◌∙◌}
+use Rattle.std.specs.Prelude.{Err, None}
+use mathlib.Core.Path.{◌≡◌, sym, ◌∙◌, refl, ap}
 use mathlib.Core.List.{List}
 use Prim.Native.Nat.{ℕ, ◌^◌}
 use lib.ListN.{length}
 use Rattle.record.specs.Questions.{Question, first_no}
-use Rattle.record.specs.declared.Verdict.TheVariants.{No}
-use Rattle.field.specs.declared.Ray.{Ray}
-use Rattle.halving.specs.declared.CastAnswer.{CastAnswer}
-use Rattle.halving.specs.declared.HitAnswer.{HitAnswer}
-use Rattle.cast.specs.declared.ColumnAnswer.{ColumnAnswer}
+use Rattle.record.specs.declared.Refusal.{Refusal}
+use Rattle.field.specs.Vectors.{Ray}
+use Rattle.halving.specs.Answers.{CastAnswer, HitAnswer}
+use Rattle.cast.proofs.Calls.{CastPromised, HitPromised, ColumnPromised}
+use Rattle.march.proofs.Calls.{MarchPromised}
+use Rattle.view.specs.Demands.{ViewDemands}
+use Rattle.tally.specs.Saved.{read_saved, SavedSays, after_saved, Saved}
 use Rattle.cast.specs.Ticks.{exponent}
-use Rattle.cast.specs.Column.{column_bytes}
+use Rattle.cast.specs.Column.{column_bytes, ColumnAnswer}
 use Rattle.loading.specs.Loading.{ray_questions}
 use Rattle.cast.specs.Questions.{buffer_questions}
 use Rattle.cast.specs.Calls.{cast_after, full_cast, hit_after, first_hit, column_after, column_answer}
-use Rattle.cast.proofs.Calls.{CastPromised, HitPromised, ColumnPromised}
 use Rattle.march.specs.Calls.{marching_cast}
-use Rattle.march.proofs.Calls.{MarchPromised}
 use Rattle.view.specs.declared.ViewAnswer.{ViewAnswer}
 use Rattle.view.specs.Call.{view_questions, view_of, viewer_ticks, viewer_first_hit}
-use Rattle.view.specs.Demands.{ViewDemands}
 use Rattle.tally.specs.declared.Totals.{Totals}
-use Rattle.tally.specs.declared.Tally.TheVariants.{Refused}
-use Rattle.tally.specs.declared.Saved.{Saved}
 use Rattle.tally.specs.Counts.{after_tally, cast_tally, hit_tally, column_tally, view_tally}
-use Rattle.tally.specs.Saved.{read_saved, SavedSays, after_saved}
 use Rattle.totals.specs.declared.Call.{Call}
 use Rattle.totals.specs.declared.Call.TheVariants as call
 use Rattle.totals.specs.declared.Answer.{Answer}
@@ -101,9 +98,9 @@ questions_of file (call.FirstHit ray budget) room = ray_questions file ray
 questions_of file (call.Column ray) room = buffer_questions file ray column_bytes room
 questions_of file (call.MarchingCast ray budget) room = buffer_questions file ray (2 ^ exponent) room
 
-module _ (file : List ℕ) {n : ℕ} (t : Totals) where
+module _ (file : List ℕ) {refusal : Refusal} (t : Totals) where
   -- a call that its questions refuse counts as a refusal
-  pub refused_counts : (c : Call) (room : ℕ) → first_no (questions_of file c room) ≡ No n → totals_after file c room t ≡ after_tally t Refused
+  pub refused_counts : (c : Call) (room : ℕ) → first_no (questions_of file c room) ≡ Err refusal → totals_after file c room t ≡ after_tally t None
   unfolding
       totals_after answer_to tally_of cast_tally hit_tally column_tally full_cast cast_after first_hit hit_after column_answer column_after
       marching_cast
@@ -112,6 +109,6 @@ module _ (file : List ℕ) {n : ℕ} (t : Totals) where
   refused_counts (call.Column ray) room e = rw e
   refused_counts (call.MarchingCast ray budget) room e = rw e
 
-  pub refused_view_counts : (c : ViewCall) → first_no (view_questions file c.ray) ≡ No n → totals_after_view file c t ≡ after_tally t Refused
+  pub refused_view_counts : (c : ViewCall) → first_no (view_questions file c.ray) ≡ Err refusal → totals_after_view file c t ≡ after_tally t None
   unfolding totals_after_view view_to view_tally viewer_first_hit viewer_ticks view_of hit_after
   refused_view_counts c e = rw e

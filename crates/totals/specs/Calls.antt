@@ -11,10 +11,8 @@ use Rattle.view.specs.declared.ViewAnswer.{ViewAnswer}
 use Rattle.view.specs.Call.{viewer_first_hit}
 use Rattle.view.specs.Demands.{ViewDemands}
 use Rattle.tally.specs.declared.Totals.{Totals}
-use Rattle.tally.specs.declared.Tally.{Tally}
-use Rattle.tally.specs.declared.Saved.{Saved}
-use Rattle.tally.specs.Counts.{after_tally, cast_tally, hit_tally, column_tally, view_tally}
-use Rattle.tally.specs.Saved.{read_saved, SavedSays, after_saved}
+use Rattle.tally.specs.Counts.{after_tally, cast_tally, hit_tally, column_tally, view_tally, Tally}
+use Rattle.tally.specs.Saved.{read_saved, SavedSays, after_saved, Saved}
 use Rattle.totals.specs.declared.Call.{Call}
 use Rattle.totals.specs.declared.Call.TheVariants as call
 use Rattle.totals.specs.declared.Answer.{Answer}

@@ -1,6 +1,6 @@
 -- Document 01's number for each case of an answer, as the slicing host gets it: that of the call's own answer.
 use Rattle.std.specs.Prelude.{ℕ, ◌^◌, ◌<◌}
-use Rattle.halving.specs.Numbers.{cast_number, hit_number}
+use Rattle.halving.specs.Answers.{cast_number, hit_number}
 use Rattle.cast.specs.Column.{column_number}
 use Rattle.totals.specs.declared.Answer.{Answer}
 use Rattle.totals.specs.declared.Answer.TheVariants as answer

@@ -4,17 +4,15 @@
 #![tactic(auto)]
 
 ghost use Rattle.std.specs.Prelude.{◌≡◌, length};
-ghost use Rattle.tally.specs.Counts.{after_tally, view_tally};
+ghost use Rattle.tally.specs.Counts.{after_tally};
 ghost use Rattle.totals.specs.Calls.{tally_of, Performed, totals_after, Viewed, totals_after_view, Answered, totals_restored};
 
-use cast::{ColumnAnswer, column, first_hit, full_cast};
+use cast::{column, first_hit, full_cast};
 use field::Ray;
-use halving::{CastAnswer, HitAnswer};
+use halving::{Cast, FirstHit};
 use march::marching_cast;
-use tally::{
-    Saved, Tally, Totals, cast_tally, column_tally, count, hit_tally, read_saved, restored,
-    view_tally,
-};
+use record::Refusal;
+use tally::{Tallied, Totals, count, read_saved, restored};
 use view::{ViewAnswer, ViewRay, viewer_first_hit};
 
 // A call on a ray in whole steps.
@@ -29,10 +27,10 @@ pub enum Call {
 // Its answer.
 #[derive(Clone, Copy)]
 pub enum Answer {
-    FullCast(CastAnswer),
-    FirstHit(HitAnswer),
-    Column(ColumnAnswer),
-    MarchingCast(CastAnswer),
+    FullCast(Result<Cast, Refusal>),
+    FirstHit(Result<FirstHit, Refusal>),
+    Column(Result<u32, Refusal>),
+    MarchingCast(Result<Cast, Refusal>),
 }
 
 // A call of the viewer's first hit.
@@ -42,57 +40,40 @@ pub struct ViewCall {
     pub budget: u32,
 }
 
-// An answer, and the totals after its call.
+// An answer, and the totals after it.
 #[derive(Clone, Copy)]
-pub struct CountedAnswer {
-    pub answer: Answer,
-    pub totals: Totals,
-}
-
-#[derive(Clone, Copy)]
-pub struct CountedViewAnswer {
-    pub answer: ViewAnswer,
-    pub totals: Totals,
-}
-
-// What a saved record is answered, and the totals after it.
-#[derive(Clone, Copy)]
-pub struct Restored {
-    pub answer: Saved,
+pub struct Counted<A> {
+    pub answer: A,
     pub totals: Totals,
 }
 
 // ---- the totals after an answer
 
-// What an answer adds.
-#[tactic(auto, unfolding(crate::specs::Calls::tally_of))]
-fn tally_of(answer: Answer) -> Tally
-    ensures { result ≡ tally_of answer }
-{
-    match answer {
-        Answer::FullCast(a) => cast_tally(a),
-        Answer::FirstHit(a) => hit_tally(a),
-        Answer::Column(a) => column_tally(a),
-        Answer::MarchingCast(a) => cast_tally(a),
+// A marching cast adds what a full cast does.
+impl Tallied for Answer {
+    ghost tally = { tally_of };
+
+    #[tactic(auto, unfolding(crate::specs::Calls::tally_of))]
+    fn tally(self) -> Option<u32> {
+        match self {
+            Answer::FullCast(a) => a.tally(),
+            Answer::FirstHit(a) => a.tally(),
+            Answer::Column(a) => a.tally(),
+            Answer::MarchingCast(a) => a.tally(),
+        }
     }
 }
 
-// The totals after an answer.
-fn count_answer(totals: Totals, answer: Answer) -> Totals
-    ensures { result ≡ after_tally totals (tally_of answer) }
+fn count_answer<A: Tallied>(totals: Totals, answer: A) -> Totals
+    ensures { result ≡ after_tally totals (A.tally answer) }
 {
-    count(totals, tally_of(answer))
-}
-
-fn count_view(totals: Totals, answer: ViewAnswer) -> Totals
-    ensures { result ≡ after_tally totals (view_tally answer) }
-{
-    count(totals, view_tally(answer))
+    count(totals, answer.tally())
 }
 
 // ---- the calls, lent no totals
 
 // Full cast, first hit, column or marching cast.
+#[tactic(auto, unfolding(crate::specs::Calls::answer_to, crate::specs::Calls::bytes_left, crate::specs::Calls::Demanded))]
 pub fn perform(file: &[u8], call: Call, buffer: &mut [u8]) -> Answer
     ensures { Performed file.now call buffer.old result buffer.new }
 {
@@ -107,6 +88,7 @@ pub fn perform(file: &[u8], call: Call, buffer: &mut [u8]) -> Answer
 }
 
 // Viewer's first hit.
+#[tactic(auto, unfolding(crate::specs::Calls::view_to))]
 pub fn view(file: &[u8], call: ViewCall) -> ViewAnswer
     ensures { Viewed file.now call result }
 {
@@ -116,34 +98,32 @@ pub fn view(file: &[u8], call: ViewCall) -> ViewAnswer
 // ---- the calls, handed the totals by value: each lends a record of its own to the call that is lent the totals
 
 // Full cast, first hit, column or marching cast, and the totals after it.
-pub fn perform_by_value(file: &[u8], call: Call, buffer: &mut [u8], totals: Totals) -> CountedAnswer
+pub fn perform_by_value(
+    file: &[u8],
+    call: Call,
+    buffer: &mut [u8],
+    mut totals: Totals,
+) -> Counted<Answer>
     ensures performed { Performed file.now call buffer.old result.answer buffer.new }
     ensures counted { result.totals ≡ totals_after file.now call (length buffer.old) totals }
 {
-    let mut record = totals;
-    let answer = perform_counted(file, call, buffer, &mut record);
-    CountedAnswer {
-        answer: answer,
-        totals: record,
-    }
+    let answer = perform_counted(file, call, buffer, &mut totals);
+    Counted { answer, totals }
 }
 
 // Viewer's first hit, and the totals after it.
-pub fn view_by_value(file: &[u8], call: ViewCall, totals: Totals) -> CountedViewAnswer
+pub fn view_by_value(file: &[u8], call: ViewCall, mut totals: Totals) -> Counted<ViewAnswer>
     ensures viewed { Viewed file.now call result.answer }
     ensures counted { result.totals ≡ totals_after_view file.now call totals }
 {
-    let mut record = totals;
-    let answer = view_counted(file, call, &mut record);
-    CountedViewAnswer {
-        answer: answer,
-        totals: record,
-    }
+    let answer = view_counted(file, call, &mut totals);
+    Counted { answer, totals }
 }
 
 // ---- the calls, lent the totals
 
 // Full cast, first hit, column or marching cast; the lent totals are then those after it.
+#[tactic(auto, unfolding(crate::specs::Calls::totals_after))]
 pub fn perform_counted(file: &[u8], call: Call, buffer: &mut [u8], totals: &mut Totals) -> Answer
     ensures performed { Performed file.now call buffer.old result buffer.new }
     ensures counted { totals.new ≡ totals_after file.now call (length buffer.old) totals.old }
@@ -154,32 +134,30 @@ pub fn perform_counted(file: &[u8], call: Call, buffer: &mut [u8], totals: &mut 
 }
 
 // Viewer's first hit; the lent totals are then those after it.
+#[tactic(auto, unfolding(crate::specs::Calls::totals_after_view))]
 pub fn view_counted(file: &[u8], call: ViewCall, totals: &mut Totals) -> ViewAnswer
     ensures viewed { Viewed file.now call result }
     ensures counted { totals.new ≡ totals_after_view file.now call totals.old }
 {
     let answer = view(file, call);
-    *totals = count_view(*totals, answer);
+    *totals = count_answer(*totals, answer);
     answer
 }
 
 // ---- a saved record, read into the totals
 
 // Handed them by value: a record of its own is lent to the call that is lent the totals.
-pub fn restore_by_value(saved: &[u8], totals: Totals) -> Restored
+pub fn restore_by_value(saved: &[u8], mut totals: Totals) -> Counted<Result<Totals, Refusal>>
     ensures answered { Answered saved.now result.answer }
     ensures restored { result.totals ≡ totals_restored saved.now totals }
 {
-    let mut record = totals;
-    let answer = restore(saved, &mut record);
-    Restored {
-        answer: answer,
-        totals: record,
-    }
+    let answer = restore(saved, &mut totals);
+    Counted { answer, totals }
 }
 
 // Lent them; the lent totals are then those after it.
-pub fn restore(saved: &[u8], totals: &mut Totals) -> Saved
+#[tactic(auto, unfolding(crate::specs::Calls::totals_restored))]
+pub fn restore(saved: &[u8], totals: &mut Totals) -> Result<Totals, Refusal>
     ensures answered { Answered saved.now result }
     ensures restored { totals.new ≡ totals_restored saved.now totals.old }
 {

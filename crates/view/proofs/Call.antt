@@ -1,31 +1,29 @@
 -- The viewer's first hit: its verdict (`view_verdict`) is a first hit's on the ray in steps, or 15; so its answer is a first hit's with places as
 -- floats (`ticks_found`), and demands 2 and 3 of it are a first hit's, for every power of two ticks to 2^23 (`view_demands`); `view_promised` is of
 -- the call.
-use Rattle.std.proofs.Common.{◌≡◌, ℕ, ◌^◌, ◌≤◌, Bool, true, false, cond, ◌&&◌, ◌⊎◌, List, [], ◌∷◌, sym, refl, ◌∙◌, inl, inr, arith, lit≤}
-use Rattle.record.specs.Questions.{first_no, next}
+use Rattle.std.proofs.Common.{◌≡◌, ℕ, ◌^◌, ◌≤◌, Bool, true, false, cond, ◌&&◌, ◌⊎◌, List, [], ◌∷◌, sym, refl, ◌∙◌, inl, inr, arith, lit≤, Ok, Err}
+use Rattle.record.specs.Questions.{number, first_no, next, Verdict}
 use Rattle.part.specs.File.{file_questions, check_file}
 use Rattle.part.specs.declared.Summary.{Summary}
-use Rattle.record.specs.declared.Verdict.{Verdict}
-use Rattle.record.specs.declared.Verdict.TheVariants.{Yes, No}
-use Rattle.part.specs.declared.Checked.TheVariants.{Accepted, Refused}
 use Rattle.record.proofs.Questions.{first_no-append, no_is_not_yes, no_numbered}
+use Rattle.record.specs.declared.Refusal.{Refusal}
+use Rattle.record.specs.declared.Refusal.TheVariants as no
 use Rattle.part.proofs.File.{answer_accepted, answer_refused, file_numbered}
-use Rattle.field.specs.declared.Ray.{Ray}
+use Rattle.field.specs.Vectors.{Ray}
 use Rattle.field.specs.Solid.{solid_of}
 use Rattle.loading.specs.Loading.{ray_questions}
 use Rattle.loading.proofs.Loading.{ray_verdict}
-use Rattle.halving.specs.declared.HitAnswer.{HitAnswer}
-use Rattle.halving.specs.declared.HitAnswer.TheVariants as found
-use Rattle.halving.specs.FirstHit.{hit_looked_at}
+use Rattle.halving.specs.declared.FirstHit.{FirstHit}
+use Rattle.halving.specs.Answers.{HitAnswer, hit_reaches}
+use Rattle.halving.specs.declared.FirstHit.TheVariants as found
 use Rattle.cast.specs.Ticks.{exponent, ray_state}
 use Rattle.cast.specs.Calls.{ray_hit, hit_after, first_hit}
 use Rattle.cast.specs.Demands.{Sound, AloneHit, HitAt, CountedHit, SameOrder, PromptHit, FoundHit}
-use Rattle.halving.proofs.FirstHit.{Found}
 use Rattle.cast.proofs.Demands.{ray_valid, no_ticks, ray_found, hit_by, hit_within}
 use Rattle.view.specs.Ray.{whole, end_whole, ray_whole, steps_ray}
 use Rattle.view.specs.Call.{float_questions, view_questions, view_of, viewer_ticks, viewer_first_hit}
 use Rattle.view.specs.Demands.{in_ticks, CountedView, ViewDemands}
-use Rattle.view.specs.declared.ViewRay.{ViewRay}
+use Rattle.view.specs.Ray.{ViewRay}
 use Rattle.view.specs.declared.ViewAnswer.{ViewAnswer}
 use Rattle.view.proofs.Coordinates.{ray_in}
 use Rattle.view.proofs.Places.{in_ticks_lem, exact_places}
@@ -33,7 +31,9 @@ use Rattle.view.proofs.Places.{in_ticks_lem, exact_places}
 -- ---- the verdict
 
 six : (a b c d e f : Bool)
-    → first_no ((15, a) ∷ (15, b) ∷ (15, c) ∷ (15, d) ∷ (15, e) ∷ (15, f) ∷ []) ≡ cond ((a && b && c) && (d && e && f)) Yes (No 15)
+    → first_no
+    ((no.Millimetres, a) ∷ (no.Millimetres, b) ∷ (no.Millimetres, c) ∷ (no.Millimetres, d) ∷ (no.Millimetres, e) ∷ (no.Millimetres, f) ∷ [])
+    ≡ cond ((a && b && c) && (d && e && f)) (Ok tt) (Err no.Millimetres)
 unfolding first_no
 six true true true true true true = refl
 six true true true true true false = refl
@@ -44,7 +44,7 @@ six true false c d e f = refl
 six false b c d e f = refl
 
 module _ (file : List ℕ) (ray : ViewRay) where
-  view_verdict : first_no (view_questions file ray) ≡ next (first_no (file_questions file)) (cond (ray_whole ray) Yes (No 15))
+  view_verdict : first_no (view_questions file ray) ≡ next (first_no (file_questions file)) (cond (ray_whole ray) (Ok tt) (Err no.Millimetres))
   unfolding view_questions float_questions ray_whole end_whole
   view_verdict = rw (
     first_no-append (file_questions file) (float_questions ray),
@@ -52,30 +52,30 @@ module _ (file : List ℕ) (ray : ViewRay) where
   )
 
   -- whole steps are in question 12's range
-  hit_verdict : first_no (ray_questions file (steps_ray ray)) ≡ next (first_no (file_questions file)) Yes
+  hit_verdict : first_no (ray_questions file (steps_ray ray)) ≡ next (first_no (file_questions file)) (Ok tt)
   hit_verdict = rw (ray_verdict file (steps_ray ray), ray_in ray)
 
   -- an accepted call is an accepted first hit's
-  hit_yes : first_no (view_questions file ray) ≡ Yes → first_no (ray_questions file (steps_ray ray)) ≡ Yes
+  hit_yes : first_no (view_questions file ray) ≡ Ok tt → first_no (ray_questions file (steps_ray ray)) ≡ Ok tt
   unfolding next
   hit_yes e = hit_verdict ∙ go (first_no (file_questions file)) (ray_whole ray) (sym view_verdict ∙ e)
     where
-      go : (v : Verdict) (b : Bool) → next v (cond b Yes (No 15)) ≡ Yes → next v Yes ≡ Yes
-      go Yes b h = refl
-      go (No n) b h = h
+      go : (v : Verdict) (b : Bool) → next v (cond b (Ok tt) (Err no.Millimetres)) ≡ Ok tt → next v (Ok tt) ≡ Ok tt
+      go (Ok tt) b h = refl
+      go (Err n) b h = h
 
-  -- a refused one's number
-  abbrev pub Number : ℕ → Type 0
-  Number n = ((1 ≤ n) × (n ≤ 11)) ⊎ (n ≡ 15)
+  -- a refused one's refusal
+  abbrev pub ViewRefusal : Refusal → Type 0
+  ViewRefusal e = ((1 ≤ number e) × (number e ≤ 11)) ⊎ (e ≡ no.Millimetres)
 
-  pub view_refusal : {n : ℕ} → first_no (view_questions file ray) ≡ No n → Number n
+  pub view_refusal : {e : Refusal} → first_no (view_questions file ray) ≡ Err e → ViewRefusal e
   unfolding next
-  view_refusal {n} e = go (first_no (file_questions file)) refl (ray_whole ray) (sym view_verdict ∙ e)
+  view_refusal {e} eq = go (first_no (file_questions file)) refl (ray_whole ray) (sym view_verdict ∙ eq)
     where
-      go : (v : Verdict) → first_no (file_questions file) ≡ v → (b : Bool) → next v (cond b Yes (No 15)) ≡ No n → Number n
-      go Yes f true h = no_is_not_yes (sym h)
-      go Yes f false h = inr cc
-      go (No m) f b h = inl (no_numbered 1 11 (file_questions file) (file_numbered 11 (omega arith) file) (f ∙ h))
+      go : (v : Verdict) → first_no (file_questions file) ≡ v → (b : Bool) → next v (cond b (Ok tt) (Err no.Millimetres)) ≡ Err e → ViewRefusal e
+      go (Ok tt) f true h = no_is_not_yes (sym h)
+      go (Ok tt) f false h = inr cc
+      go (Err m) f b h = inl (no_numbered 1 11 (file_questions file) (file_numbered 11 (omega arith) file) (f ∙ h))
 
   abbrev steps : Ray
   steps = steps_ray ray
@@ -89,25 +89,23 @@ module _ (file : List ℕ) (ray : ViewRay) where
     ticks_found w = rw (view_verdict, hit_verdict, w)
 
     -- floats that are not: the file's refusal, or 15
-    pub ticks_refused : ray_whole ray ≡ false → {n : ℕ} → check_file file ≡ Refused n → viewer_ticks exponent file ray budget ≡ found.Refused n
+    pub ticks_refused : ray_whole ray ≡ false → {e : Refusal} → check_file file ≡ Err e → viewer_ticks exponent file ray budget ≡ Err e
     unfolding viewer_ticks hit_after check_file next
     ticks_refused w e = rw (view_verdict, w, answer_refused (first_no (file_questions file)) file e)
 
-    pub ticks_15 : ray_whole ray ≡ false → {part : Summary} → check_file file ≡ Accepted part
-        → viewer_ticks exponent file ray budget ≡ found.Refused 15
+    pub ticks_15 : ray_whole ray ≡ false → {part : Summary} → check_file file ≡ Ok part
+        → viewer_ticks exponent file ray budget ≡ Err no.Millimetres
     unfolding viewer_ticks hit_after check_file next
     ticks_15 w e = rw (view_verdict, w, answer_accepted (first_no (file_questions file)) file e)
 
   -- ---- demands 2 and 3, and the exact places, with 2^k ticks
 
   module _ (k budget : ℕ) where
-    counted : (a : HitAnswer) → Found (ray_state (solid_of file) steps (2 ^ k)) budget k 0 0 a → CountedHit (solid_of file) steps k budget a
-        → CountedView file ray k budget (view_of (2 ^ k) a)
+    counted : (f : FirstHit) → CountedHit (solid_of file) steps k budget (Ok f) → CountedView file ray k budget (view_of (2 ^ k) (Ok f))
     unfolding CountedView CountedHit in_ticks view_of
-    counted (found.Refused _) h c = elim h [ ]
-    counted (found.Hit t s p) h c = c
-    counted (found.Clear p) h c = c
-    counted (found.Spent t p) h c = c
+    counted (found.Hit t s p) c = c
+    counted (found.Clear p) c = c
+    counted (found.Spent t p) c = c
 
     -- of an answer in ticks
     pub record DemandsMet (a : HitAnswer) : Type 0 where
@@ -116,26 +114,26 @@ module _ (file : List ℕ) (ray : ViewRay) where
       pub order : SameOrder (solid_of file) steps k budget a
       pub prompt : PromptHit k budget a
       pub in_time : FoundHit (solid_of file) steps k budget a
-      pub sound : Sound (solid_of file) steps (2 ^ k) (hit_looked_at (2 ^ k) a)
+      pub sound : Sound (solid_of file) steps (2 ^ k) (hit_reaches (2 ^ k) a)
 
     ticks_demands : DemandsMet (viewer_ticks k file ray budget)
-    unfolding viewer_ticks hit_after AloneHit HitAt CountedView SameOrder PromptHit FoundHit view_of hit_looked_at
+    unfolding viewer_ticks hit_after AloneHit HitAt CountedView SameOrder PromptHit FoundHit view_of hit_reaches
     ticks_demands = go (first_no (view_questions file ray)) refl
       where
         go : (v : Verdict) → first_no (view_questions file ray) ≡ v → DemandsMet (hit_after v (solid_of file) steps k budget)
-        go Yes e =
+        go (Ok tt) e =
             let valid = ray_valid file steps (hit_yes e) in
-            let d = hit_by (solid_of file) steps k budget Yes (λ y. valid) (λ n f. no_is_not_yes (sym f)) in
+            let d = hit_by (solid_of file) steps k budget (Ok tt) (λ y. valid) (λ n f. no_is_not_yes (sym f)) in
             let a = ray_hit (solid_of file) steps k budget in
             record {
               alone = d.alone;
-              counted = counted a (ray_found (solid_of file) steps k budget valid) d.counted;
+              counted = counted a d.counted;
               order = d.order;
               prompt = d.prompt;
               in_time = d.in_time;
               sound = d.sound;
             }
-        go (No n) e = record {
+        go (Err n) e = record {
           alone = tt;
           counted = view_refusal e;
           order = tt;
@@ -169,7 +167,7 @@ module _ (file : List ℕ) (ray : ViewRay) where
         → (a ≡ viewer_ticks exponent file ray budget) × ViewDemands file ray exponent budget (view_of (2 ^ exponent) a)
     ticks_promised e = (e, rw e (view_demands exponent budget (lit≤ tt)))
 
-    pub ticks_within : {a : HitAnswer} → a ≡ viewer_ticks exponent file ray budget → hit_looked_at (2 ^ exponent) a ≤ 2 ^ exponent
+    pub ticks_within : {a : HitAnswer} → a ≡ viewer_ticks exponent file ray budget → hit_reaches (2 ^ exponent) a ≤ 2 ^ exponent
     ticks_within e = rw e (hit_within (solid_of file) steps (2 ^ exponent) _ (ticks_demands exponent budget).alone)
 
     pub view_promised : {a : ViewAnswer} → a ≡ viewer_first_hit file ray budget

@@ -2,7 +2,7 @@
 -- is got back from it.
 use Rattle.std.proofs.Common.{◌≡◌, ℕ, zero, suc, ◌*◌, ◌/◌, ◌^◌, ◌<◌, ◌≤◌, Bool, true, false, cond, eqb, pos, negsuc, nat_abs, sym, refl, ap, ◌∙◌}
 use Rattle.std.proofs.Common.{subst, true≢false, le_trans, le_of_eq, lt_of_lt_of_le, le-add_right, lt_of_le_of_lt, lt_irrefl, mul_assoc, mul_comm}
-use Rattle.std.proofs.Common.{mul-le-mul_left, mul-pos, mul-one, mul-div_cancel, lit<, lit≤, pow_pos, pow_mono, ne_eqb}
+use Rattle.std.proofs.Common.{mul-le-mul_left, mul-pos, mul-one, mul-div_cancel, lit<, lit≤, pow_pos, pow_mono, ne_eqb, Ok, Err}
 use lib.Ieee.{Float, nan, inf, fin, binary32, up, down, round, div, of_int}
 use lib.Ieee.Fits.{down_pos}
 use lib.Ieee.Exact.{HasValue}
@@ -10,8 +10,8 @@ use lib.Ieee.Scale.{round_same}
 use lib.Ieee.Back.{round_whole}
 use lib.Ieee.Positive.{first_pos}
 use Rattle.halving.specs.FirstHit.{hit_looked_at}
-use Rattle.halving.specs.declared.HitAnswer.{HitAnswer}
-use Rattle.halving.specs.declared.HitAnswer.TheVariants as found
+use Rattle.halving.specs.Answers.{HitAnswer, hit_reaches}
+use Rattle.halving.specs.declared.FirstHit.TheVariants as found
 use Rattle.view.specs.Floats.{Equals, place_of, tick_at}
 use Rattle.view.specs.Call.{view_of}
 use Rattle.view.specs.Demands.{in_ticks, ExactPlace}
@@ -77,16 +77,16 @@ module _ (k : ℕ) (few : k ≤ 23) where
   at_tick : (h : ℕ) → h ≤ 2 ^ k → Equals (place_of (2 ^ k) h) (pos (tick_at (2 ^ k) (place_of (2 ^ k) h))) (2 ^ k)
   at_tick h near = rw (tick_is h near) (place_is h near)
 
-  pub in_ticks_lem : (a : HitAnswer) → hit_looked_at (2 ^ k) a ≤ 2 ^ k → in_ticks (2 ^ k) (view_of (2 ^ k) a) ≡ a
-  unfolding hit_looked_at in_ticks view_of
-  in_ticks_lem (found.Refused number) h = refl
-  in_ticks_lem (found.Hit tick mark probes) h = ap (λ (t : ℕ). found.Hit t mark probes) (tick_is tick (le_trans (le-add_right tick 1) h))
-  in_ticks_lem (found.Clear probes) h = refl
-  in_ticks_lem (found.Spent tick probes) h = ap (λ (t : ℕ). found.Spent t probes) (tick_is tick h)
+  pub in_ticks_lem : (a : HitAnswer) → hit_reaches (2 ^ k) a ≤ 2 ^ k → in_ticks (2 ^ k) (view_of (2 ^ k) a) ≡ a
+  unfolding hit_reaches hit_looked_at in_ticks view_of
+  in_ticks_lem (Err refusal) h = refl
+  in_ticks_lem (Ok (found.Hit tick mark probes)) h = ap (λ (t : ℕ). Ok (found.Hit t mark probes)) (tick_is tick (le_trans (le-add_right tick 1) h))
+  in_ticks_lem (Ok (found.Clear probes)) h = refl
+  in_ticks_lem (Ok (found.Spent tick probes)) h = ap (λ (t : ℕ). Ok (found.Spent t probes)) (tick_is tick h)
 
-  pub exact_places : (a : HitAnswer) → hit_looked_at (2 ^ k) a ≤ 2 ^ k → ExactPlace (2 ^ k) (view_of (2 ^ k) a)
-  unfolding hit_looked_at ExactPlace view_of
-  exact_places (found.Refused number) h = tt
-  exact_places (found.Hit tick mark probes) h = at_tick tick (le_trans (le-add_right tick 1) h)
-  exact_places (found.Clear probes) h = tt
-  exact_places (found.Spent tick probes) h = at_tick tick h
+  pub exact_places : (a : HitAnswer) → hit_reaches (2 ^ k) a ≤ 2 ^ k → ExactPlace (2 ^ k) (view_of (2 ^ k) a)
+  unfolding hit_reaches hit_looked_at ExactPlace view_of
+  exact_places (Err refusal) h = tt
+  exact_places (Ok (found.Hit tick mark probes)) h = at_tick tick (le_trans (le-add_right tick 1) h)
+  exact_places (Ok (found.Clear probes)) h = tt
+  exact_places (Ok (found.Spent tick probes)) h = at_tick tick h

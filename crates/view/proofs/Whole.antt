@@ -1,7 +1,7 @@
 -- What `steps_of` answers, and how the code finds it: the tests of the product's range (`range_test`), its truncation (`truncated`) and the
 -- comparison with the truncation cast back (`whole_test`). `exactly`: it answers n exactly where 64 times the float's exact value is n.
 use Rattle.std.proofs.Common.{◌≡◌, ℕ, zero, suc, ◌-◌, ◌*◌, ◌/◌, ◌%◌, ◌^◌, ◌<◌, ◌≤◌, min, Bool, true, false, cond, ◌&&◌, T, eqb, leb, ◌⊎◌, ℤ, pos}
-use Rattle.std.proofs.Common.{negsuc, ◌*ℤ◌, neg_ℤ, nat_abs, ◌≤ℤ◌, sym, refl, ap, ◌∙◌, inl, inr, le_trans, le_of_eq, lt_of_lt_of_le}
+use Rattle.std.proofs.Common.{negsuc, ◌*ℤ◌, neg_ℤ, nat_abs, ◌≤ℤ◌, sym, refl, ap, ◌∙◌, inl, inr, le_trans, le_of_eq, lt_of_lt_of_le, Some, None}
 use Rattle.std.proofs.Common.{le_of_suc-le-suc, lt_of_le_of_lt, le_of_lt, mul-le-mul_right, div-lt_iff_lt-mul, mul-lt-mul_of_pos_right}
 use Rattle.std.proofs.Common.{not-le_of_lt, mul-div_cancel, arith, lit<, lit≤, le→leb, lt→ltb, eq-eqb, eqb-true, le-leb, leb-false, leb-true}
 use mathlib.Core.Bool.{false≢true}
@@ -22,7 +22,6 @@ use Rattle.exact.proofs.Absolute.{nat_abs_mul}
 use Rattle.record.specs.Nodes.{coordinate}
 use Rattle.view.specs.Floats.{signed, Equals}
 use Rattle.view.specs.Steps.{times64, whole_steps, steps_of, InSteps, Exactly}
-use Rattle.view.specs.declared.Steps.TheVariants.{Whole, Refused}
 use Rattle.view.proofs.Floats.{abs_signed, signed-times, equals}
 use Rattle.view.proofs.Compare.{le_values, lt_values, eq_values}
 use Rattle.view.proofs.Scaling.{scaled}
@@ -47,16 +46,16 @@ below : (num den : ℕ) → 0 < den → num ≤ 2047 * den → num / den ≤ 204
 below num den D h = le_of_suc-le-suc ((div-lt_iff_lt-mul D).1 (lt_of_le_of_lt h (mul-lt-mul_of_pos_right (lit< tt) D)))
 
 module _ (s : Bool) (num den : ℕ) where
-  granted : 0 < den → num % den ≡ 0 → num ≤ 2047 * den → whole_steps s num den ≡ Whole (signed s (num / den))
+  granted : 0 < den → num % den ≡ 0 → num ≤ 2047 * den → whole_steps s num den ≡ Some (signed s (num / den))
   unfolding whole_steps
   granted D r h = rw (eq-eqb (num % den) 0 r, coordinate_is s (num / den), le-leb (num / den) 2047 (below num den D h))
 
-  refused : (num % den ≡ 0 → num ≤ 2047 * den → ⊥) → whole_steps s num den ≡ Refused
+  refused : (num % den ≡ 0 → num ≤ 2047 * den → ⊥) → whole_steps s num den ≡ None
   unfolding whole_steps
   refused never =
       rw (coordinate_is s (num / den)) (go (eqb (num % den) 0) (leb (num / den) 2047) (eqb-true (num % den) 0) (leb-true (num / den) 2047))
     where
-      go : (p q : Bool) → (p ≡ true → num % den ≡ 0) → (q ≡ true → num / den ≤ 2047) → cond (p && q) (Whole (signed s (num / den))) Refused ≡ Refused
+      go : (p q : Bool) → (p ≡ true → num % den ≡ 0) → (q ≡ true → num / den ≤ 2047) → cond (p && q) (Some (signed s (num / den))) None ≡ None
       go true true x y = let r = x refl in absurd (never r (le_trans (le_of_eq (whole_quotient num den r)) (mul-le-mul_right den (y refl))))
       go true false x y = refl
       go false q x y = refl
@@ -90,7 +89,7 @@ outside true = refl
 outside false = refl
 
 -- or it is out of range
-product : (x : Float) → T (fits binary32 x) → Product x ⊎ ((inside (times64 x) ≡ false) × (steps_of x ≡ Refused))
+product : (x : Float) → T (fits binary32 x) → Product x ⊎ ((inside (times64 x) ≡ false) × (steps_of x ≡ None))
 unfolding times64 mul steps_of le lt eq
 product nan F = inr (refl, refl)
 product (inf true) F = inr (refl, refl)
@@ -189,7 +188,7 @@ ranged x F h =
       | inr k ↦ absurd (false≢true (sym k.0 ∙ h))
     ]
 
-pub unranged : (x : Float) → T (fits binary32 x) → inside (times64 x) ≡ false → steps_of x ≡ Refused
+pub unranged : (x : Float) → T (fits binary32 x) → inside (times64 x) ≡ false → steps_of x ≡ None
 unranged x F h =
     elim (product x F) [
       | inl p ↦ p.steps ∙ refused p.s p.num p.den (λ r few. not-le_of_lt (leb-false p.num (2047 * p.den) (sym (test_is p) ∙ h)) few)
@@ -218,10 +217,10 @@ module _ {x y : Float} (is : y ≡ times64 x) (r : Ranged x) where
   test : eq (of_int binary32 (cut_of r)) y ≡ eqb (p.num % p.den) 0
   test = whole_test y p.s p.num p.den p.den_pos value r.few
 
-  pub whole_yes : eq (of_int binary32 (cut_of r)) y ≡ true → Whole (cut_of r) ≡ steps_of x
+  pub whole_yes : eq (of_int binary32 (cut_of r)) y ≡ true → Some (cut_of r) ≡ steps_of x
   whole_yes h = sym (p.steps ∙ granted p.s p.num p.den p.den_pos (eqb-true (p.num % p.den) 0 (sym test ∙ h)) r.few)
 
-  pub whole_no : eq (of_int binary32 (cut_of r)) y ≡ false → Refused ≡ steps_of x
+  pub whole_no : eq (of_int binary32 (cut_of r)) y ≡ false → None ≡ steps_of x
   whole_no h = sym (p.steps ∙ refused p.s p.num p.den (λ z few. eqb-false (p.num % p.den) 0 (sym test ∙ h) z))
 
 pub cut_small : {x : Float} (r : Ranged x) → Small 2047 (cut_of r)
@@ -236,18 +235,18 @@ castable (negsuc n) h = lt→ltb n (2 ^ 24) (le_trans h.abs (lit≤ tt))
 
 -- ---- both ways
 
-apart : {X : Type 0} {n : ℤ} → Refused ≡ Whole n → X
+apart : {X : Type 0} {n : ℤ} → None ≡ Some n → X
 apart h = let z : ◌≡◌ {A = ℕ} 0 1 = cc in absurd (omega arith)
 
 module _ (s : Bool) (m : ℕ) (e n : ℤ) where
   abbrev num : ℕ
   num = m * up e * 64
 
-  only : whole_steps s num (down e) ≡ Whole n → InSteps (fin s m e) n
+  only : whole_steps s num (down e) ≡ Some n → InSteps (fin s m e) n
   unfolding whole_steps
   only h =
       let q = signed s (num / down e) in
-      elim (cond_is (eqb (num % down e) 0 && coordinate q) (Whole q) Refused) [
+      elim (cond_is (eqb (num % down e) 0 && coordinate q) (Some q) None) [
         | inl k ↦ (
             let is : q ≡ n = cc in
             let b = both_true (eqb (num % down e) 0) (coordinate q) k.0 in
@@ -256,7 +255,7 @@ module _ (s : Bool) (m : ℕ) (e n : ℤ) where
         | inr k ↦ apart (sym k.1 ∙ h)
       ]
 
-  all : InSteps (fin s m e) n → whole_steps s num (down e) ≡ Whole n
+  all : InSteps (fin s m e) n → whole_steps s num (down e) ≡ Some n
   unfolding whole_steps
   all h =
       let w : num ≡ nat_abs n * down e = sym (abs_signed s num) ∙ ap nat_abs h.0 ∙ nat_abs_mul n (pos (down e)) in

@@ -1,25 +1,26 @@
 -- The viewer's ray in steps (document 01, "Viewer's first hit"): "The products are the ray's coordinates in steps, A's three and then B's."
-use Rattle.std.specs.Prelude.{Bool, true, false, cond, ◌&&◌, ℤ, pos, Float}
-use Rattle.field.specs.declared.Position.{Position}
-use Rattle.field.specs.declared.Ray.{Ray}
-use Rattle.view.specs.Steps.{steps_of}
-use Rattle.view.specs.declared.Steps.{Steps}
-use Rattle.view.specs.declared.Steps.TheVariants as steps
-use Rattle.view.specs.declared.ViewEnd.{ViewEnd}
-use Rattle.view.specs.declared.ViewRay.{ViewRay}
-use Rattle.view.specs.declared.EndSteps.{EndSteps}
-use Rattle.view.specs.declared.EndSteps.TheVariants as end
-use Rattle.view.specs.declared.RaySteps.{RaySteps}
-use Rattle.view.specs.declared.RaySteps.TheVariants as ray
+use Rattle.std.specs.Prelude.{Bool, true, false, cond, ◌&&◌, ℤ, pos, Float, Option, Some, None}
+use Rattle.field.specs.declared.Vector.{Vector}
+use Rattle.field.specs.declared.Segment.{Segment}
+use Rattle.field.specs.Vectors.{Position}
+use Rattle.field.specs.Vectors.{Ray}
+use Rattle.view.specs.Steps.{steps_of, Steps}
+
+-- an end in millimetres, and the ray of two
+abbrev pub ViewEnd : Type 0
+ViewEnd = Vector Float
+
+abbrev pub ViewRay : Type 0
+ViewRay = Segment Float
 
 -- what a float's answer says: whether it has steps, and which, 0 for none
 abbrev pub is_whole : Steps → Bool
-is_whole (steps.Whole n) = true
-is_whole steps.Refused = false
+is_whole (Some n) = true
+is_whole None = false
 
 abbrev pub or_zero : Steps → ℤ
-or_zero (steps.Whole n) = n
-or_zero steps.Refused = pos 0
+or_zero (Some n) = n
+or_zero None = pos 0
 
 -- ---- question 15: of a float, of an end and of a ray
 
@@ -43,10 +44,10 @@ position_of e = record { x = coordinate_of e.x; y = coordinate_of e.y; z = coord
 unfoldable pub steps_ray : ViewRay → Ray
 steps_ray ray = record { start = position_of ray.start; end = position_of ray.end }
 
--- ---- an end and a ray in steps, or the refusal
+-- ---- an end and a ray in steps, if they have them
 
-unfoldable pub end_steps : ViewEnd → EndSteps
-end_steps e = cond (end_whole e) (end.At (position_of e)) end.Refused
+unfoldable pub end_steps : ViewEnd → Option Position
+end_steps e = cond (end_whole e) (Some (position_of e)) None
 
-unfoldable pub ray_steps : ViewRay → RaySteps
-ray_steps r = cond (ray_whole r) (ray.Along (steps_ray r)) ray.Refused
+unfoldable pub ray_steps : ViewRay → Option Ray
+ray_steps r = cond (ray_whole r) (Some (steps_ray r)) None

@@ -4,7 +4,7 @@
 #![tactic(auto)]
 
 ghost use Rattle.std.specs.Prelude.{◌≡◌, ◌^◌, ◌<◌, ◌≤◌};
-ghost use Rattle.halving.specs.FirstHit.{hit_looked_at};
+ghost use Rattle.halving.specs.Answers.{hit_reaches};
 ghost use Rattle.cast.specs.Ticks.{exponent};
 ghost use Rattle.view.specs.Floats.{place_of};
 ghost use Rattle.view.specs.Steps.{times64, steps_of, Exactly};
@@ -13,51 +13,22 @@ ghost use Rattle.view.specs.Call.{view_of, viewer_ticks, viewer_first_hit};
 ghost use Rattle.view.specs.Demands.{ViewDemands};
 
 use cast::{TICKS, first_hit};
-use field::{Position, Ray};
-use halving::HitAnswer;
-use part::{Checked, check};
+use field::{Position, Ray, Segment, Vector};
+use halving::FirstHit;
+use part::check;
+use record::Refusal;
 
 // An end of the viewer's ray, in millimetres.
-#[derive(Clone, Copy)]
-pub struct ViewEnd {
-    pub x: f32,
-    pub y: f32,
-    pub z: f32,
-}
+pub type ViewEnd = Vector<f32>;
 
 // The viewer's ray from end A to end B.
-#[derive(Clone, Copy)]
-pub struct ViewRay {
-    pub start: ViewEnd,
-    pub end: ViewEnd,
-}
+pub type ViewRay = Segment<f32>;
 
-// A coordinate in whole steps.
-#[derive(Clone, Copy)]
-pub enum Steps {
-    Refused,
-    Whole(i32),
-}
-
-// An end in whole steps.
-#[derive(Clone, Copy)]
-pub enum EndSteps {
-    Refused,
-    At(Position),
-}
-
-// A ray in whole steps.
-#[derive(Clone, Copy)]
-pub enum RaySteps {
-    Refused,
-    Along(Ray),
-}
-
-// What the viewer's first hit answers: the refusal number; where the first tick that is not empty starts, its mark and the probes;
-// the probes, if all are empty; or where the tick reached starts and the probes. Places are parts of the ray, from 0 to 1.
+// What the viewer's first hit answers: the refusal; where the first tick that is not empty starts, its mark and the probes; the probes, if all are
+// empty; or where the tick reached starts and the probes. Places are parts of the ray, from 0 to 1. Document 01 names this form.
 #[derive(Clone, Copy)]
 pub enum ViewAnswer {
-    Refused(u32),
+    Refused(Refusal),
     Hit { entry: f32, mark: u8, probes: u32 },
     Clear { probes: u32 },
     Spent { place: f32, probes: u32 },
@@ -72,7 +43,7 @@ fn scale(x: f32) -> f32
 }
 
 // A float in millimetres as whole steps of 1/64 mm: question 15 of one float.
-pub fn in_steps(x: f32) -> Steps
+pub fn in_steps(x: f32) -> Option<i32>
     ensures answer { result ≡ steps_of x }
     ensures exactly { Exactly x result }
 {
@@ -82,40 +53,30 @@ pub fn in_steps(x: f32) -> Steps
         if p <= 2047.0 {
             let n = std::num::truncating_f32_to_i64(p);
             if n as f32 == p {
-                return Steps::Whole(n as i32);
+                return Some(n as i32);
             }
         }
     }
-    Steps::Refused
+    None
 }
 
-fn end_in_steps(e: ViewEnd) -> EndSteps
+fn end_in_steps(e: ViewEnd) -> Option<Position>
     ensures { result ≡ end_steps e }
 {
-    let Steps::Whole(x) = in_steps(e.x) else {
-        return EndSteps::Refused;
-    };
-    let Steps::Whole(y) = in_steps(e.y) else {
-        return EndSteps::Refused;
-    };
-    let Steps::Whole(z) = in_steps(e.z) else {
-        return EndSteps::Refused;
-    };
-    EndSteps::At(Position { x: x, y: y, z: z })
+    Some(Position {
+        x: in_steps(e.x)?,
+        y: in_steps(e.y)?,
+        z: in_steps(e.z)?,
+    })
 }
 
-fn ray_in_steps(ray: ViewRay) -> RaySteps
+#[tactic(auto, unfolding(crate::specs::Ray::end_steps, crate::specs::Ray::ray_steps, crate::specs::Ray::ray_whole, crate::specs::Ray::steps_ray))]
+fn ray_in_steps(ray: ViewRay) -> Option<Ray>
     ensures { result ≡ ray_steps ray }
 {
-    let EndSteps::At(start) = end_in_steps(ray.start) else {
-        return RaySteps::Refused;
-    };
-    let EndSteps::At(end) = end_in_steps(ray.end) else {
-        return RaySteps::Refused;
-    };
-    RaySteps::Along(Ray {
-        start: start,
-        end: end,
+    Some(Ray {
+        start: end_in_steps(ray.start)?,
+        end: end_in_steps(ray.end)?,
     })
 }
 
@@ -130,22 +91,23 @@ fn place_of(tick: usize, ticks: usize) -> f32
 }
 
 // A first hit's answer with its tick as a place.
-fn view_of(answer: HitAnswer, ticks: usize) -> ViewAnswer
-    requires answer_bound { hit_looked_at ticks answer ≤ ticks }
+#[tactic(auto, unfolding(crate::specs::Call::view_of, halving::specs::Answers::hit_reaches, halving::specs::FirstHit::hit_looked_at))]
+fn view_of(answer: Result<FirstHit, Refusal>, ticks: usize) -> ViewAnswer
+    requires answer_bound { hit_reaches ticks answer ≤ ticks }
     requires ticks_nonzero { (0 < ticks) × (ticks ≤ 4096) }
     ensures { result ≡ view_of ticks answer }
 {
     match answer {
-        HitAnswer::Refused(number) => ViewAnswer::Refused(number),
-        HitAnswer::Hit { tick, mark, probes } => ViewAnswer::Hit {
+        Err(refusal) => ViewAnswer::Refused(refusal),
+        Ok(FirstHit::Hit { tick, mark, probes }) => ViewAnswer::Hit {
             entry: place_of(tick, ticks),
-            mark: mark,
-            probes: probes,
+            mark,
+            probes,
         },
-        HitAnswer::Clear { probes } => ViewAnswer::Clear { probes: probes },
-        HitAnswer::Spent { tick, probes } => ViewAnswer::Spent {
+        Ok(FirstHit::Clear { probes }) => ViewAnswer::Clear { probes },
+        Ok(FirstHit::Spent { tick, probes }) => ViewAnswer::Spent {
             place: place_of(tick, ticks),
-            probes: probes,
+            probes,
         },
     }
 }
@@ -154,16 +116,16 @@ fn view_of(answer: HitAnswer, ticks: usize) -> ViewAnswer
 
 // Viewer's first hit in ticks. Whole steps are in question 12's range, so a first hit answers 12 with yes and its other questions
 // are the viewer's.
-pub fn viewer_ticks(file: &[u8], ray: ViewRay, budget: u32) -> HitAnswer
+pub fn viewer_ticks(file: &[u8], ray: ViewRay, budget: u32) -> Result<FirstHit, Refusal>
     ensures answer { result ≡ viewer_ticks exponent file.now ray budget }
     ensures demands { ViewDemands file.now ray exponent budget (view_of (2 ^ exponent) result) }
 {
     match ray_in_steps(ray) {
-        RaySteps::Along(steps) => first_hit(file, steps, budget),
-        RaySteps::Refused => match check(file) {
-            Checked::Refused(number) => HitAnswer::Refused(number),
-            Checked::Accepted(_) => HitAnswer::Refused(15),
-        },
+        Some(steps) => first_hit(file, steps, budget),
+        None => {
+            check(file)?;
+            Err(Refusal::Millimetres)
+        }
     }
 }
 

@@ -1,8 +1,9 @@
--- The writer's questions: which no is the first, as the code asks them (`no_16`, `from-5`), what all answered yes says (`accepted_write`), and
--- which numbers a refusal has.
+-- The writer's questions: which no is the first, as the code asks them (`in_order`), what all answered yes says (`accepted_write`), and what a
+-- refusal is (`refusal_number`).
+use Rattle.std.specs.Prelude.{Ok, Err}
 use Prim.Native.Nat.{ℕ, ◌+◌, ◌*◌, ◌/◌, ◌%◌, ◌≤◌}
 use native.Mathlib.Omega.{arith}
-use mathlib.Core.Path.{◌≡◌, refl, sym, ◌∙◌}
+use mathlib.Core.Path.{◌≡◌, refl, sym, ◌∙◌, ap, subst}
 use mathlib.Core.Logic.{inl, inr}
 use mathlib.Core.List.{List, [], ◌∷◌, ◌++◌, map}
 use mathlib.Core.Bool.{Bool, true, false, cond}
@@ -12,10 +13,10 @@ use lib.IntN.{ℤ}
 use lib.Dec.{leb, eqb}
 use Rattle.exact.specs.Range.{between}
 use Rattle.exact.proofs.Tests.{both_true, between_true}
-use Rattle.record.specs.Questions.{Question, first_no, next}
-use Rattle.record.specs.declared.Verdict.{Verdict}
-use Rattle.record.specs.declared.Verdict.TheVariants.{Yes, No}
+use Rattle.record.specs.Questions.{Question, first_no, next, Verdict}
 use Rattle.record.proofs.Questions.{first_no-append, no_is_not_yes, all_yes, yes_append, no_numbered}
+use Rattle.record.specs.declared.Refusal.{Refusal}
+use Rattle.record.specs.declared.Refusal.TheVariants as no
 use Rattle.part.specs.File.{version_known, records_questions}
 use Rattle.part.proofs.File.{records_numbered}
 use Rattle.writer.specs.Bytes.{size}
@@ -43,34 +44,18 @@ module _ (l : List ℤ) (i v room place : ℕ) where
   nodes_verdict = first_no (records_questions (map record_of (given l)) 0)
 
   abbrev pub last_verdict : Verdict
-  last_verdict = cond (has_room (length l / 6) room place) Yes (No 17)
+  last_verdict = cond (has_room (length l / 6) room place) (Ok tt) (Err no.Room)
 
-  -- 3 and 5, then the nodes
-  abbrev pub given_verdict : Verdict
-  given_verdict = cond (version_known v) (cond (between 1 4096 i) nodes_verdict (No 5)) (No 3)
-
-  -- the lists one after the other
-  in_order : first_no (writer_questions l i v room place) ≡ next (cond (counted (length l)) given_verdict (No 16)) last_verdict
+  pub in_order : first_no (writer_questions l i v room place)
+      ≡ cond (counted (length l))
+      (cond (version_known v) (cond (between 1 4096 i) (next nodes_verdict last_verdict) (Err no.Iso)) (Err no.Version))
+      (Err no.Numbers)
   unfolding writer_questions first_no
   in_order =
-      first_no-append ((16, counted (length l)) ∷ (3, version_known v) ∷ (5, between 1 4096 i) ∷ records_questions (map record_of (given l)) 0)
-      ((17, has_room (length l / 6) room place) ∷ [])
-
-  pub no_16 : counted (length l) ≡ false → first_no (writer_questions l i v room place) ≡ No 16
-  unfolding next
-  no_16 e = rw (in_order, e)
-
-  pub from_3 : counted (length l) ≡ true
-      → first_no (writer_questions l i v room place)
-      ≡ cond (version_known v) (cond (between 1 4096 i) (next nodes_verdict last_verdict) (No 5)) (No 3)
-  unfolding next
-  from_3 e = rw (in_order, e) (go (version_known v) (between 1 4096 i))
-    where
-      go : (s t : Bool) → next (cond s (cond t nodes_verdict (No 5)) (No 3)) last_verdict
-          ≡ cond s (cond t (next nodes_verdict last_verdict) (No 5)) (No 3)
-      go false t = refl
-      go true true = refl
-      go true false = refl
+      ap
+      (λ (w : Verdict).
+      cond (counted (length l)) (cond (version_known v) (cond (between 1 4096 i) w (Err no.Iso)) (Err no.Version)) (Err no.Numbers))
+      (first_no-append (records_questions (map record_of (given l)) 0) ((no.Room, has_room (length l / 6) room place) ∷ []))
 
   -- all answered yes
   pub record AcceptedWrite : Type 0 where
@@ -79,11 +64,11 @@ module _ (l : List ℤ) (i v room place : ℕ) where
     pub within : place + size (length l / 6) ≤ room
     pub short : place + size (length l / 6) ≤ 65536
 
-  pub accepted_write : first_no (writer_questions l i v room place) ≡ Yes → AcceptedWrite
+  pub accepted_write : first_no (writer_questions l i v room place) ≡ Ok tt → AcceptedWrite
   unfolding writer_questions has_room
   accepted_write ok =
-      let first : List Question = (16, counted (length l)) ∷ (3, version_known v) ∷ (5, between 1 4096 i) ∷ [] in
-      let last : List Question = (17, has_room (length l / 6) room place) ∷ [] in
+      let first : List Question = (no.Numbers, counted (length l)) ∷ (no.Version, version_known v) ∷ (no.Iso, between 1 4096 i) ∷ [] in
+      let last : List Question = (no.Room, has_room (length l / 6) room place) ∷ [] in
       let rs = records_questions (map record_of (given l)) 0 in
       let end = place + size (length l / 6) in
       let earlier = yes_append (first ++ rs) last ok in
@@ -108,21 +93,23 @@ module _ (l : List ℤ) (i v room place : ℕ) where
         short = leb-true end 65536 r.1;
       }
 
-  -- the number of a refusal
-  pub refusal_number : {n : ℕ} → first_no (writer_questions l i v room place) ≡ No n → WriteRefusal n
+  -- what a refusal is
+  pub refusal_number : {e : Refusal} → first_no (writer_questions l i v room place) ≡ Err e → WriteRefusal e
   unfolding next
-  refusal_number {n} e =
-      go (counted (length l)) (version_known v) (between 1 4096 i) nodes_verdict (has_room (length l / 6) room place) refl (sym in_order ∙ e)
+  refusal_number {e} eq =
+      go (counted (length l)) (version_known v) (between 1 4096 i) nodes_verdict (has_room (length l / 6) room place) refl (sym in_order ∙ eq)
     where
       go : (c s t : Bool) (w : Verdict) (h : Bool) → nodes_verdict ≡ w
-          → next (cond c (cond s (cond t w (No 5)) (No 3)) (No 16)) (cond h Yes (No 17)) ≡ No n → WriteRefusal n
-      go false s t w h is f = let m : 16 ≡ n = cc in inr (inr (inl (sym m)))
-      go true false t w h is f = let m : 3 ≡ n = cc in inl (sym m)
-      go true true false w h is f = let m : 5 ≡ n = cc in inr (inl (omega arith, omega arith))
-      go true true true (No k) h is f =
-          let m : k ≡ n = cc in
+          → cond c (cond s (cond t (next w (cond h (Ok tt) (Err no.Room))) (Err no.Iso)) (Err no.Version)) (Err no.Numbers) ≡ Err e → WriteRefusal e
+      go false s t w h is f = let m : no.Numbers ≡ e = cc in inr (inr (inl (sym m)))
+      go true false t w h is f = let m : no.Version ≡ e = cc in inl (sym m)
+      go true true false w h is f =
+          let m : no.Iso ≡ e = cc in
+          subst WriteRefusal m (inr (inl (omega arith, omega arith)))
+      go true true true (Err k) h is f =
+          let m : k ≡ e = cc in
           let rs = map record_of (given l) in
           let r = no_numbered 6 11 (records_questions rs 0) (records_numbered 6 11 (omega arith) (omega arith) rs 0) is in
-          inr (inl (omega (arith, r.0), omega (arith, r.1)))
-      go true true true Yes false is f = let m : 17 ≡ n = cc in inr (inr (inr (sym m)))
-      go true true true Yes true is f = no_is_not_yes (sym f)
+          subst WriteRefusal m (inr (inl (omega (arith, r.0), omega (arith, r.1))))
+      go true true true (Ok tt) false is f = let m : no.Room ≡ e = cc in inr (inr (inr (sym m)))
+      go true true true (Ok tt) true is f = no_is_not_yes (sym f)

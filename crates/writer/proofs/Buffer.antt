@@ -1,4 +1,5 @@
 -- The answer and the buffer by the verdict: of a refused call (`refused`), and of one whose records and trailer are stored (`stored`).
+use Rattle.std.specs.Prelude.{Ok, Err}
 use Prim.Native.Nat.{ℕ, ◌+◌, ◌*◌, ◌/◌, ◌≤◌}
 use native.Mathlib.Nat.{add_assoc}
 use mathlib.Core.Path.{◌≡◌, sym, ap, ◌∙◌}
@@ -8,24 +9,23 @@ use lib.Seq.{sets, sets-eq}
 use lib.IntN.{ℤ}
 use Rattle.exact.proofs.Buffers.{sets-append}
 use Rattle.record.specs.Questions.{first_no}
-use Rattle.record.specs.declared.Verdict.TheVariants.{Yes, No}
+use Rattle.record.specs.declared.Refusal.{Refusal}
 use Rattle.writer.specs.Bytes.{records_bytes, size, trailer_bytes, part_bytes}
 use Rattle.writer.specs.Given.{given}
 use Rattle.writer.specs.Writer.{writer_questions, answer_by, buffer_by, write_answer, buffer_left}
-use Rattle.writer.specs.declared.Written.TheVariants.{Refused, End}
 use Rattle.writer.proofs.Records.{length-records}
 use Rattle.writer.proofs.Reading.{length_part}
 use Rattle.writer.proofs.Given.{given-length}
 use Rattle.writer.proofs.Asked.{accepted_write}
 
 module _ (l : List ℤ) (i v : ℕ) (buffer : List ℕ) (place : ℕ) where
-  pub refused : {n : ℕ} → first_no (writer_questions l i v (length buffer) place) ≡ No n
-      → (write_answer l i v (length buffer) place ≡ Refused n) × (buffer_left l i v buffer place ≡ buffer)
+  pub refused : {e : Refusal} → first_no (writer_questions l i v (length buffer) place) ≡ Err e
+      → (write_answer l i v (length buffer) place ≡ Err e) × (buffer_left l i v buffer place ≡ buffer)
   unfolding write_answer answer_by buffer_left buffer_by
-  refused e = (rw e, rw e)
+  refused eq = (rw eq, rw eq)
 
-  module _ (ok : first_no (writer_questions l i v (length buffer) place) ≡ Yes) where
-    pub answer_end : write_answer l i v (length buffer) place ≡ End (place + size (length l / 6))
+  module _ (ok : first_no (writer_questions l i v (length buffer) place) ≡ Ok tt) where
+    pub answer_end : write_answer l i v (length buffer) place ≡ Ok (place + size (length l / 6))
     unfolding write_answer answer_by
     answer_end = rw ok
 
@@ -34,9 +34,9 @@ module _ (l : List ℤ) (i v : ℕ) (buffer : List ℕ) (place : ℕ) where
     buffer_written = rw ok
 
     -- as the code answers and stores them
-    pub stored_end : write_answer l i v (length buffer) place ≡ End (place + 12 * (length l / 6) + 12)
+    pub stored_end : write_answer l i v (length buffer) place ≡ Ok (place + 12 * (length l / 6) + 12)
     unfolding size
-    stored_end = answer_end ∙ ap End (sym (add_assoc place (12 * (length l / 6)) 12))
+    stored_end = answer_end ∙ ap Ok (sym (add_assoc place (12 * (length l / 6)) 12))
 
     pub stored : sets (sets buffer place (records_bytes (given l))) (place + 12 * (length l / 6)) (trailer_bytes (length l / 6) i v)
         ≡ buffer_left l i v buffer place

@@ -1,5 +1,6 @@
 -- What the writer promises beside its equations (document 02, P2): what was given is read back, all else is kept (`write_says`), and what was read
 -- from a file is that file again (`write_returns`).
+use Rattle.std.specs.Prelude.{Ok, Err}
 use Prim.Native.Nat.{ℕ, ◌+◌, ◌/◌, ◌%◌, ◌≤◌}
 use native.Mathlib.Nat.{zero-add}
 use native.Mathlib.Omega.{arith}
@@ -11,32 +12,27 @@ use lib.ListN.{length, take, drop, length-append}
 use lib.Seq.{length-take-le, take_at, drop_at}
 use lib.IntN.{ℤ}
 use Rattle.exact.proofs.Tests.{true_between, true_both}
-use Rattle.record.specs.Questions.{first_no, next}
+use Rattle.record.specs.Questions.{first_no, next, Verdict}
 use Rattle.record.specs.declared.Node.{Node}
-use Rattle.record.specs.declared.Verdict.{Verdict}
-use Rattle.record.specs.declared.Verdict.TheVariants.{Yes, No}
 use Rattle.part.specs.File.{distance, start, nodes, check_file, file_questions}
 use Rattle.part.specs.Accepted.{Trailer}
-use Rattle.part.specs.declared.Checked.TheVariants.{Accepted}
 use Rattle.part.proofs.File.{accepted}
 use Rattle.part.proofs.Trailer.{accepted_trailer}
 use Rattle.nodes.specs.Numbers.{numbers}
 use Rattle.nodes.proofs.Numbers.{numbers-length}
 use Rattle.writer.specs.Bytes.{size, part_bytes}
 use Rattle.writer.specs.Given.{given}
-use Rattle.writer.specs.Writer.{counted, has_room, writer_questions, write_answer, buffer_left, WrittenPart, WriteSays, ReadFrom, Returned}
-use Rattle.writer.specs.declared.Written.{Written}
-use Rattle.writer.specs.declared.Written.TheVariants.{End}
+use Rattle.writer.specs.Writer.{counted, has_room, writer_questions, write_answer, buffer_left, WrittenPart, WriteSays, ReadFrom, Returned, Written}
 use Rattle.writer.proofs.Given.{given-length, numbers-given, given-numbers}
 use Rattle.writer.proofs.Reading.{Writable, length_part, part_accepted, part_nodes}
 use Rattle.writer.proofs.Rewriting.{rewritten, read_writable}
-use Rattle.writer.proofs.Asked.{AcceptedWrite, accepted_write, from_3, refusal_number}
+use Rattle.writer.proofs.Asked.{AcceptedWrite, accepted_write, in_order, refusal_number}
 use Rattle.writer.proofs.Buffer.{refused, answer_end, buffer_written}
 
 -- ---- what was given is read back, and all else is kept
 
 module _ (l : List ℤ) (i v : ℕ) (buffer : List ℕ) (place : ℕ) where
-  module _ (ok : first_no (writer_questions l i v (length buffer) place) ≡ Yes) where
+  module _ (ok : first_no (writer_questions l i v (length buffer) place) ≡ Ok tt) where
     abbrev end : ℕ
     end = place + size (length l / 6)
 
@@ -62,7 +58,7 @@ module _ (l : List ℤ) (i v : ℕ) (buffer : List ℕ) (place : ℕ) where
     written_part = record {
       checked =
           ap check_file file_is ∙ part_accepted facts.writable (take place buffer) short
-          ∙ ap (λ (n : ℕ). Accepted (record { nodes = n; iso = i; version = v })) (given-length l);
+          ∙ ap (λ (n : ℕ). Ok (record { nodes = n; iso = i; version = v })) (given-length l);
       read =
           ap (λ (f : List ℕ). numbers (nodes f)) file_is ∙ ap numbers (part_nodes facts.writable (take place buffer) short)
           ∙ numbers-given l facts.count.whole;
@@ -82,15 +78,15 @@ module _ (l : List ℤ) (i v : ℕ) (buffer : List ℕ) (place : ℕ) where
     where
       go : (verdict : Verdict) → first_no (writer_questions l i v (length buffer) place) ≡ verdict
           → WriteSays l i v buffer place (write_answer l i v (length buffer) place) (buffer_left l i v buffer place)
-      go Yes ok = rw (answer_end l i v buffer place ok) (written_part ok)
-      go (No n) e =
+      go (Ok tt) ok = rw (answer_end l i v buffer place ok) (written_part ok)
+      go (Err n) e =
           let r = refused l i v buffer place e in
           rw r.0 (e, refusal_number l i v (length buffer) place e, r.1)
 
 -- ---- what was read is the file again
 
 module _ (file : List ℕ) (i v : ℕ) (buffer : List ℕ) (f : ReadFrom file (numbers (nodes file)) i v (length buffer)) where
-  ok : first_no (file_questions file) ≡ Yes
+  ok : first_no (file_questions file) ≡ Ok tt
   ok = accepted file f.accepted
 
   trailer : Trailer file
@@ -125,11 +121,12 @@ module _ (file : List ℕ) (i v : ℕ) (buffer : List ℕ) (f : ReadFrom file (n
   unfolding has_room
   room_yes = rw ends (true_both (le-leb (length file) (length buffer) f.room_enough) (le-leb (length file) 65536 trailer.short))
 
-  questions_yes : first_no (writer_questions (numbers (nodes file)) i v (length buffer) 0) ≡ Yes
+  questions_yes : first_no (writer_questions (numbers (nodes file)) i v (length buffer) 0) ≡ Ok tt
   unfolding next
   questions_yes =
       rw (
-        from_3 (numbers (nodes file)) i v (length buffer) 0 counted_yes,
+        in_order (numbers (nodes file)) i v (length buffer) 0,
+        counted_yes,
         true_between 1 2 v writable.version_low writable.version_high,
         true_between 1 4096 i writable.iso_low writable.iso_high,
         given-numbers (nodes file),
@@ -137,12 +134,12 @@ module _ (file : List ℕ) (i v : ℕ) (buffer : List ℕ) (f : ReadFrom file (n
         room_yes,
       )
 
-  returned : (write_answer (numbers (nodes file)) i v (length buffer) 0 ≡ End (length file))
+  returned : (write_answer (numbers (nodes file)) i v (length buffer) 0 ≡ Ok (length file))
       × (buffer_left (numbers (nodes file)) i v buffer 0 ≡ file ++ drop (length file) buffer)
   returned =
       let e : part_bytes (given (numbers (nodes file))) i v ≡ file =
       ap (λ (ns : List Node). part_bytes ns i v) (given-numbers (nodes file)) ∙ same in (
-        answer_end (numbers (nodes file)) i v buffer 0 questions_yes ∙ ap End ends,
+        answer_end (numbers (nodes file)) i v buffer 0 questions_yes ∙ ap Ok ends,
         buffer_written (numbers (nodes file)) i v buffer 0 questions_yes ∙ ap₂ (λ (u : List ℕ) (j : ℕ). u ++ drop j buffer) e ends,
       )
 

@@ -1,6 +1,7 @@
 -- Records and trailer read back, whatever stands before them: the check accepts them, and their nodes are the given ones.
 -- `part_accepted w before short : check_file (before ++ part_bytes ns i v) ≡ Accepted …`, from `w : Writable ns i v`; `part_nodes` says it of
 -- the nodes.
+use Rattle.std.specs.Prelude.{Ok}
 use Prim.Native.Nat.{ℕ, ◌+◌, ◌*◌, ◌%◌, ◌≤◌}
 use native.Mathlib.Omega.{arith}
 use mathlib.Core.Path.{◌≡◌, refl, ap, ◌∙◌}
@@ -12,8 +13,6 @@ use Rattle.record.specs.Questions.{first_no, next}
 use Rattle.part.specs.File.{iso, version, distance, trailer_questions, start, count, records, nodes_from, nodes}
 use Rattle.part.specs.File.{records_questions, file_questions, answer_of, check_file}
 use Rattle.record.specs.declared.Node.{Node}
-use Rattle.part.specs.declared.Checked.TheVariants.{Accepted}
-use Rattle.record.specs.declared.Verdict.TheVariants.{Yes}
 use Rattle.record.proofs.Questions.{first_no-append}
 use Rattle.part.proofs.Leading.{leading_ignored, leading_nodes}
 use Rattle.writer.specs.Bytes.{size, trailer_bytes, records_bytes, part_bytes}
@@ -29,7 +28,7 @@ pub record Writable (ns : List Node) (i v : ℕ) : Type 0 where
   pub version_high : v ≤ 2
   pub iso_low : 1 ≤ i
   pub iso_high : i ≤ 4096
-  pub yes_to_all : first_no (records_questions (map record_of ns) 0) ≡ Yes
+  pub yes_to_all : first_no (records_questions (map record_of ns) 0) ≡ Ok tt
 
 pub length_part : (ns : List Node) (i v : ℕ) → length (part_bytes ns i v) ≡ size (length ns)
 unfolding part_bytes size
@@ -69,7 +68,7 @@ module _ {ns : List Node} {i v : ℕ} (w : Writable ns i v) where
   unfolding records part_bytes
   part_records = rw (part_count, part_start) (records_back ns 0 (trailer_bytes (length ns) i v) w.yes_to_all)
 
-  part_trailer : first_no (trailer_questions (part_bytes ns i v)) ≡ Yes
+  part_trailer : first_no (trailer_questions (part_bytes ns i v)) ≡ Ok tt
   unfolding trailer_questions first_no part_bytes
   part_trailer =
       rw (
@@ -85,12 +84,12 @@ module _ {ns : List Node} {i v : ℕ} (w : Writable ns i v) where
         true_between 1 4096 i w.iso_low w.iso_high,
       )
 
-  pub part_yes : first_no (file_questions (part_bytes ns i v)) ≡ Yes
+  pub part_yes : first_no (file_questions (part_bytes ns i v)) ≡ Ok tt
   unfolding file_questions next
   part_yes = rw (first_no-append, part_trailer, part_records) w.yes_to_all
 
   module _ (before : List ℕ) (short : length before + size (length ns) ≤ 65536) where
-    pub part_accepted : check_file (before ++ part_bytes ns i v) ≡ Accepted (record { nodes = length ns; iso = i; version = v })
+    pub part_accepted : check_file (before ++ part_bytes ns i v) ≡ Ok (record { nodes = length ns; iso = i; version = v })
     unfolding check_file answer_of size
     part_accepted =
         leading_ignored before (part_bytes ns i v) (omega (arith, long)) (omega (arith, long, part_distance))

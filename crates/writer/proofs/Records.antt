@@ -1,6 +1,7 @@
 -- A record's bytes read back. `records_back ns held rest ok : records_from (records_bytes ns ++ rest) (length ns) 0 ≡ map record_of ns`, from `ok`,
 -- that the questions accept the nodes: whatever follows them.
-use Prim.Native.Nat.{ℕ, ◌+◌, ◌-◌, ◌*◌, ◌/◌, ◌%◌, ◌≤◌, ◌<◌}
+use Rattle.std.specs.Prelude.{Ok}
+use Prim.Native.Nat.{ℕ, ◌+◌, ◌-◌, ◌*◌, ◌≤◌, ◌<◌}
 use native.Mathlib.Omega.{arith}
 use mathlib.Core.Path.{◌≡◌, refl, sym, ap, ap₂, ◌∙◌, subst}
 use mathlib.Core.List.{List, [], ◌∷◌, ◌++◌, map, append_assoc}
@@ -13,19 +14,18 @@ use Rattle.exact.specs.Range.{Small, eq_ℤ}
 use Rattle.exact.proofs.Order.{≤ℤ_trans, nn_pos}
 use Rattle.exact.proofs.Absolute.{pos-nat_abs_nn}
 use Rattle.exact.proofs.Tests.{both_true, eq_ℤ_true, positive_small}
-use Rattle.exact.proofs.Buffers.{sets-append}
+use Rattle.exact.proofs.Buffers.{sets-then}
 use Rattle.record.specs.Bytes.{u16, i16, has_bytes, zeros}
 use Rattle.record.specs.Questions.{first_no}
 use Rattle.record.specs.Nodes.{is_point, for_operator, held_after}
 use Rattle.record.specs.Record.{node_at, zero_bytes, record_at, record_questions}
 use Rattle.record.specs.Ranges.{Ready}
 use Rattle.record.specs.declared.Node.{Node}
-use Rattle.record.specs.declared.Verdict.TheVariants.{Yes}
 use Rattle.record.proofs.Questions.{all_yes, yes_append}
 use Rattle.record.proofs.Ranges.{ready, for_operator_lem}
 use Rattle.part.specs.File.{records_from, records_questions}
 use Rattle.part.proofs.Leading.{records_moved}
-use Rattle.writer.specs.Bytes.{bits16, u16_bytes, i16_bytes, words, record_bytes, records_bytes}
+use Rattle.writer.specs.Bytes.{bits16, u16_bytes, i16_bytes, record_bytes, records_bytes}
 use Rattle.writer.specs.Given.{node_in, nodes_in, others_zero, record_of}
 use Rattle.writer.specs.Storable.{Storable, AllStorable}
 use Rattle.writer.proofs.Numbers.{u16_back, i16_back}
@@ -134,28 +134,6 @@ record_back n rest s e = rw (node_back n rest s, e) (ap (λ (t : Bool). record {
     go true p = point_zeros n rest
     go false p = operator_zeros n rest (operator_zero n e p)
 
--- ---- as the code stores it
-
--- six 16-bit numbers by three pairs
-pub pairs_stored : (a b c d e f : ℕ) (l : List ℕ) (to : ℕ) {first second all : List ℕ}
-    → first ≡ sets l to (u16_bytes a ++ u16_bytes b) → second ≡ sets first (to + 4) (u16_bytes c ++ u16_bytes d)
-    → all ≡ sets second (to + 8) (u16_bytes e ++ u16_bytes f) → all ≡ sets l to (words a b c d e f)
-unfolding words u16_bytes
-pairs_stored a b c d e f l to p q r =
-    let u = u16_bytes a ++ u16_bytes b in
-    let v = u16_bytes c ++ u16_bytes d in
-    let w = u16_bytes e ++ u16_bytes f in
-    let two = q ∙ (λ i. sets (p i) (to + 4) v) ∙ sets-append u v l to in
-    r ∙ (λ i. sets (two i) (to + 8) w) ∙ sets-append (u ++ v) w l to
-
-pub record_words : (n : Node) → nat_abs n.kind < 256
-    → words (nat_abs n.kind) (nat_abs n.radius) (bits16 n.x) (bits16 n.y) (bits16 n.z) (bits16 n.weight) ≡ record_bytes n
-unfolding words record_bytes u16_bytes i16_bytes
-record_words n h =
-    let l : nat_abs n.kind % 256 ≡ nat_abs n.kind = omega arith in
-    let u : nat_abs n.kind / 256 % 256 ≡ 0 = omega arith in
-    rw (l, u)
-
 -- ---- all of them
 
 pub length_record : (n : Node) → length (record_bytes n) ≡ 12
@@ -168,13 +146,13 @@ length-records [] = refl
 length-records (n ∷ later) = rw (length-append, length_record n, length-records later) (omega arith)
 
 -- what the questions say of each
-pub node_facts : (n : Node) (held : ℕ) → first_no (record_questions (record_of n) held) ≡ Yes → Storable n × (for_operator n (others_zero n) ≡ true)
+pub node_facts : (n : Node) (held : ℕ) → first_no (record_questions (record_of n) held) ≡ Ok tt → Storable n × (for_operator n (others_zero n) ≡ true)
 unfolding record_questions record_of
 node_facts n held ok =
     let e : for_operator n (others_zero n) ≡ true = all_yes (record_questions (record_of n) held) ok 1 in
     (storable n held (ready (record_of n) held ok) e, e)
 
-pub records_back : (ns : List Node) (held : ℕ) (rest : List ℕ) → first_no (records_questions (map record_of ns) held) ≡ Yes
+pub records_back : (ns : List Node) (held : ℕ) (rest : List ℕ) → first_no (records_questions (map record_of ns) held) ≡ Ok tt
     → records_from (records_bytes ns ++ rest) (length ns) 0 ≡ map record_of ns
 unfolding records_from records_bytes records_questions
 records_back [] held rest ok = refl
@@ -188,7 +166,7 @@ records_back (n ∷ later) held rest ok =
     ∙ records_moved (record_bytes n) (records_bytes later ++ rest) (length later) 0
     ∙ records_back later (held_after (record_of n).node held) rest q.1))
 
-pub all_storable : (ns : List Node) (held : ℕ) → first_no (records_questions (map record_of ns) held) ≡ Yes → AllStorable ns
+pub all_storable : (ns : List Node) (held : ℕ) → first_no (records_questions (map record_of ns) held) ≡ Ok tt → AllStorable ns
 unfolding records_questions AllStorable
 all_storable [] held ok = tt
 all_storable (n ∷ later) held ok =
@@ -196,19 +174,31 @@ all_storable (n ∷ later) held ok =
     let q = yes_append (record_questions (record_of n) held) (records_questions (map record_of later) after) ok in
     ((node_facts n held q.0).0, all_storable later after q.1)
 
--- ---- one of n nodes that are given, with the code's `n - 1`
+-- ---- the k-th of n nodes that are given, and those after it
 
-pub bytes_step : (l : List ℤ) (n at : ℕ) (out : List ℕ) (to : ℕ) → 0 < n
-    → sets out to (records_bytes (nodes_in l n at))
-    ≡ sets (sets out to (record_bytes (node_in l at))) (to + 12) (records_bytes (nodes_in l (n - 1) (at + 6)))
-unfolding records_bytes
-bytes_step l n at out to h =
-    let v = records_bytes (nodes_in l (n - 1) (at + 6)) in
-    rw (given-step l n at h)
-    (sym (sets-append (record_bytes (node_in l at)) v out to)
-    ∙ ap (λ (k : ℕ). sets (sets out to (record_bytes (node_in l at))) (to + k) v) (length_record (node_in l at)))
+abbrev pub given_from : List ℤ → ℕ → ℕ → List Node
+given_from l n k = nodes_in l (n - k) (6 * k)
 
-pub storable_step : (l : List ℤ) (n at : ℕ) → 0 < n → AllStorable (nodes_in l n at)
-    → Storable (node_in l at) × AllStorable (nodes_in l (n - 1) (at + 6))
+from_step : (l : List ℤ) (n k : ℕ) → k < n → given_from l n k ≡ node_in l (6 * k) ∷ given_from l n (k + 1)
+from_step l n k h =
+    let left : n - k - 1 ≡ n - (k + 1) = omega arith in
+    let at : 6 * k + 6 ≡ 6 * (k + 1) = omega arith in
+    given-step l (n - k) (6 * k) (omega arith) ∙ rw (left, at)
+
+pub storable_step : (l : List ℤ) (n k : ℕ) → k < n → AllStorable (given_from l n k)
+    → Storable (node_in l (6 * k)) × AllStorable (given_from l n (k + 1))
 unfolding AllStorable
-storable_step l n at h s = rw (given-step l n at h) at s
+storable_step l n k h s = rw (from_step l n k h) at s
+
+-- the buffer after the records from the k-th on are stored in their places
+abbrev pub stored_from : List ℤ → ℕ → List ℕ → ℕ → ℕ → List ℕ
+stored_from l n out place k = sets out (place + 12 * k) (records_bytes (given_from l n k))
+
+pub bytes_step : (l : List ℤ) (n : ℕ) (out : List ℕ) (place k : ℕ) {after : List ℕ} → k < n
+    → after ≡ sets out (place + 12 * k) (record_bytes (node_in l (6 * k))) → stored_from l n after place (k + 1) ≡ stored_from l n out place k
+unfolding records_bytes
+bytes_step l n out place k h e =
+    let r = record_bytes (node_in l (6 * k)) in
+    let v = records_bytes (given_from l n (k + 1)) in
+    let to : place + 12 * (k + 1) ≡ place + 12 * k + length r = omega (arith, length_record (node_in l (6 * k))) in
+    rw (from_step l n k h) (sets-then r v out (place + 12 * k) e refl refl to)

@@ -1,5 +1,6 @@
 -- Writing what was read from an accepted file: its bytes from the first record on (`rewritten_part`), which without leading bytes are the file
 -- (`rewritten`); and that the questions accept it (`read_writable`).
+use Rattle.std.specs.Prelude.{Ok}
 use Prim.Native.Nat.{ℕ, zero, suc, ◌+◌, ◌-◌, ◌*◌, ◌≤◌, ◌<◌}
 use native.Mathlib.Nat.{add-zero}
 use native.Mathlib.Omega.{arith}
@@ -13,7 +14,6 @@ use Rattle.record.specs.Questions.{first_no}
 use Rattle.record.specs.Nodes.{is_point, for_operator, held_after}
 use Rattle.record.specs.Record.{node_at, zero_bytes, record_at, record_questions}
 use Rattle.record.specs.declared.Record.{Record}
-use Rattle.record.specs.declared.Verdict.TheVariants.{Yes}
 use Rattle.record.proofs.Questions.{all_yes, yes_append}
 use Rattle.part.specs.File.{iso, version, distance, file_mark, marked, trailer_questions, start, count, records_from, records, nodes_from, nodes}
 use Rattle.part.specs.File.{records_questions, file_questions}
@@ -67,11 +67,11 @@ module _ (file : List ℕ) (at : ℕ) (e : (record_at file at).zeroed ≡ true) 
       go true f = refl
       go false f = read_zero f
 
-zeroed : (r : Record) (held : ℕ) → first_no (record_questions r held) ≡ Yes → r.zeroed ≡ true
+zeroed : (r : Record) (held : ℕ) → first_no (record_questions r held) ≡ Ok tt → r.zeroed ≡ true
 unfolding record_questions
 zeroed r held ok = all_yes (record_questions r held) ok 1
 
-pub read_records : (file : List ℕ) (n at held : ℕ) → first_no (records_questions (records_from file n at) held) ≡ Yes
+pub read_records : (file : List ℕ) (n at held : ℕ) → first_no (records_questions (records_from file n at) held) ≡ Ok tt
     → map record_of (nodes_from file n at) ≡ records_from file n at
 unfolding records_from nodes_from records_questions record_at
 read_records file zero at held ok = refl
@@ -96,7 +96,7 @@ module _ (file : List ℕ) (octets : Octets file) where
         second-zero file at e,
       )
 
-  records_bytes_lem : (n at held : ℕ) → first_no (records_questions (records_from file n at) held) ≡ Yes → at + 12 * n ≤ length file
+  records_bytes_lem : (n at held : ℕ) → first_no (records_questions (records_from file n at) held) ≡ Ok tt → at + 12 * n ≤ length file
       → records_bytes (nodes_from file n at) ++ drop (at + 12 * n) file ≡ drop at file
   unfolding records_from nodes_from records_questions records_bytes record_at
   records_bytes_lem zero at held ok h = ap (λ (j : ℕ). drop j file) (add-zero at)
@@ -127,8 +127,8 @@ module _ (file : List ℕ) (octets : Octets file) where
 
   -- ---- an accepted file
 
-  module _ (ok : first_no (file_questions file) ≡ Yes) where
-    questions : (first_no (trailer_questions file) ≡ Yes) × (first_no (records_questions (records_from file (count file) (start file)) 0) ≡ Yes)
+  module _ (ok : first_no (file_questions file) ≡ Ok tt) where
+    questions : (first_no (trailer_questions file) ≡ Ok tt) × (first_no (records_questions (records_from file (count file) (start file)) 0) ≡ Ok tt)
     unfolding file_questions records
     questions = yes_append (trailer_questions file) (records_questions (records file) 0) ok
 
@@ -173,7 +173,7 @@ module _ (file : List ℕ) (octets : Octets file) where
         rewritten_part ∙ ap (λ (k : ℕ). drop k file) z
 
 -- what was read is accepted by the writer's questions
-pub read_writable : (file : List ℕ) → first_no (file_questions file) ≡ Yes → Writable (nodes file) (iso file) (version file)
+pub read_writable : (file : List ℕ) → first_no (file_questions file) ≡ Ok tt → Writable (nodes file) (iso file) (version file)
 unfolding file_questions records nodes
 read_writable file ok =
     let t = accepted_trailer file ok in

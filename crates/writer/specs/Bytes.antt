@@ -28,10 +28,6 @@ bits16 (negsuc n) = 65536 - suc n
 unfoldable pub i16_bytes : ℤ → List ℕ
 i16_bytes z = u16_bytes (bits16 z)
 
--- six 16-bit numbers
-unfoldable pub words : ℕ → ℕ → ℕ → ℕ → ℕ → ℕ → List ℕ
-words a b c d e f = u16_bytes a ++ u16_bytes b ++ u16_bytes c ++ u16_bytes d ++ u16_bytes e ++ u16_bytes f
-
 -- ---- the file
 
 -- a record: 12 bytes

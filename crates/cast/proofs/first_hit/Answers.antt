@@ -1,21 +1,22 @@
 -- A refusal is the first no's, and an accepted ray is searched in the numbers that `load_ray` left.
-use mathlib.Core.Path.{refl, sym}
+use mathlib.Core.Path.{refl, sym, ◌∙◌}
 use native.Mathlib.Omega.{arith}
+use Rattle.record.proofs.Questions.{passed_on}
 use Rattle.cast.proofs.Calls.{searchable, states_are, hit_refused, hit_made}
 use Rattle.cast.proofs.first_hit.Goals as goal
 
 pub hit_ticks-requires-clause-searchable : goal.hit_ticks-requires-clause-searchable
 hit_ticks-requires-clause-searchable c =
-    searchable _ _ _ _ refl c.load_ray-checked.ensures.numbers (sym c.in-Accepted.ensures.answer) _ _ (omega arith) (omega arith)
+    searchable _ _ _ _ refl c.load_ray.ensures.numbers (sym c.load_ray.ensures.answer ∙ c.in_ok-part.was) _ _ (omega arith) (omega arith)
 
-pub returns-in-Refused : goal.returns-in-Refused
-returns-in-Refused c =
-    let f = hit_refused c.args.file.now c.args.ray c.args.budget (sym c.in-Refused.ensures.answer) in
-    record { answer = f.0; demands = f.1 }
+pub returns-in_err-part : goal.returns-in_err-part
+returns-in_err-part c =
+    let f = hit_refused c.args.file.now c.args.ray c.args.budget (sym c.load_ray.ensures.answer ∙ c.in_err-part.was) in
+    rw (passed_on c.from_residual.result c.from_residual.ensures.1) (record { answer = f.0; demands = f.1 })
 
-pub returns-in-Accepted : goal.returns-in-Accepted
-returns-in-Accepted c =
-    let e = sym c.in-Accepted.ensures.answer in
-    let agree = states_are c.args.file.now c.args.ray _ _ refl c.load_ray-checked.ensures.numbers e 1024 c.args.budget (omega arith) (omega arith) in
+pub returns : goal.returns
+returns c =
+    let e = sym c.load_ray.ensures.answer ∙ c.in_ok-part.was in
+    let agree = states_are c.args.file.now c.args.ray _ _ refl c.load_ray.ensures.numbers e 1024 c.args.budget (omega arith) (omega arith) in
     let f = hit_made c.args.file.now c.args.ray c.args.budget c.hit_ticks.result agree e c.hit_ticks.ensures in
     record { answer = f.0; demands = f.1 }

@@ -12,4 +12,4 @@ pub returns : goal.returns
 returns c =
     let v = c.viewer_ticks.ensures in
     let a = c.args in
-    host_view _ {hosts = view_ray_of a.ax a.ay a.az a.bx a.by a.bz} c.view_ray_of.ensures _ _ v.answer v.demands c.hit_number.ensures
+    host_view _ {hosts = view_ray_of a.ax a.ay a.az a.bx a.by a.bz} c.ray_of.ensures _ _ v.answer v.demands c.hit_number.ensures

@@ -12,10 +12,10 @@ pub returns-clause-called : goal.returns-clause-called
 returns-clause-called c =
     let v = c.viewer_ticks-seen.ensures in
     let a = c.args in
-    host_view _ {hosts = view_ray_of a.ax a.ay a.az a.bx a.by a.bz} c.view_ray_of.ensures _ _ v.answer v.demands c.hit_number.ensures
+    host_view _ {hosts = view_ray_of a.ax a.ay a.az a.bx a.by a.bz} c.ray_of.ensures _ _ v.answer v.demands c.hit_number.ensures
 
 pub returns-clause-counted : goal.returns-clause-counted
 returns-clause-counted c =
     let v = c.viewer_ticks-seen.ensures in
     let a = c.args in
-    view_counted _ {hosts = view_ray_of a.ax a.ay a.az a.bx a.by a.bz} c.view_ray_of.ensures _ _ v.answer _ c.count_lent.ensures c.hit_tally.ensures
+    view_counted _ {hosts = view_ray_of a.ax a.ay a.az a.bx a.by a.bz} c.ray_of.ensures _ _ v.answer _ c.count_lent.ensures c.tally.ensures

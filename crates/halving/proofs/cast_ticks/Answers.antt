@@ -3,13 +3,13 @@ use Rattle.halving.specs.Search.{state_in}
 use Rattle.halving.proofs.Span.{reached_within, walk-handed}
 use Rattle.halving.proofs.cast_ticks.Goals as goal
 
-pub mark_rest-requires-clause-answer_bound : goal.mark_rest-requires-clause-answer_bound
-mark_rest-requires-clause-answer_bound c =
+pub mark_rest-requires-clause-cast_bound : goal.mark_rest-requires-clause-cast_bound
+mark_rest-requires-clause-cast_bound c =
     let a = c.args in
-    reached_within (state_in a.prepared.now a.s) a.s.budget a.level a.s.ticks c.requires.halvable.size _ c.cast_span-answer.ensures.answer
+    reached_within (state_in a.prepared.now a.s) a.s.budget a.level a.s.ticks c.requires.halvable.size _ c.cast_span-cast.ensures.answer
 
 pub returns-clause-bytes : goal.returns-clause-bytes
 returns-clause-bytes c =
     let a = c.args in
-    walk-handed (state_in a.prepared.now a.s) a.s.budget a.level a.s.ticks c.requires.halvable.size _ c.cast_span-answer.ensures.answer
-    _ _ _ c.requires.ticks_in_bounds c.cast_span-answer.ensures.bytes c.mark_rest.ensures
+    walk-handed (state_in a.prepared.now a.s) a.s.budget a.level a.s.ticks c.requires.halvable.size _ c.cast_span-cast.ensures.answer
+    _ _ _ c.requires.ticks_in_bounds c.cast_span-cast.ensures.bytes c.mark_rest.ensures

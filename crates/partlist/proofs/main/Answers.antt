@@ -6,5 +6,5 @@ use Rattle.partlist.proofs.main.Goals as goal
 
 pub print_accepted-requires : goal.print_accepted-requires
 print_accepted-requires c =
-    let e = sym c.load-answer.ensures.answer ∙ c.in-Accepted.is in
+    let e = sym c.load.ensures.answer ∙ c.in-Ok.is in
     rw (accepted_summary _ e) (count_high (accepted_file _ e).trailer)

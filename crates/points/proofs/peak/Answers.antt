@@ -56,6 +56,6 @@ returns-then-foot_inside c =
     ((from_u {w = w64} (quotient_le c) tt).is
     ∙ ap pos (rw (radius_is c.args.p f c.foot_radius.ensures, distance_is c.args.p f c.foot_distance.ensures) at c.high_q.ensures))
 
-pub returns : goal.returns
+pub returns-else-foot_inside : goal.returns-else-foot_inside
 unfolding peak_of
-returns c = rw (inside c.args.p c.ranges.a c.foot_inside.ensures c.if-foot_inside.false)
+returns-else-foot_inside c = rw (inside c.args.p c.ranges.a c.foot_inside.ensures c.if-foot_inside.false)

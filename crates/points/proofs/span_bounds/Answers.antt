@@ -52,11 +52,11 @@ weigh_is : (k : Kernel) {r : Bounds} {w w' : ℤ} {x x' y y' : ℕ} → r ≡ we
     → r ≡ weighted w' (k.low x') (k.high y')
 weigh_is k e w x y = rw (w, x, y) at e
 
-pub returns-then-not-comes_within : goal.returns-then-not-comes_within
+pub returns-else-comes_within : goal.returns-else-comes_within
 unfolding point_bounds
-returns-then-not-comes_within c =
+returns-else-comes_within c =
     let q = far c.args.p c.args.s c.ranges.a c.requires.reached_ranges c.requires.span_ranges c.scaled_square-whole.ensures.0
-    c.distance_at-i.ensures c.distance_at-j.ensures c.foot_inside-foot.ensures (sym c.comes_within.ensures ∙ c.if-not-comes_within.true) in
+    c.distance_at-i.ensures c.distance_at-j.ensures c.foot_inside-foot.ensures (sym c.comes_within.ensures ∙ c.if-comes_within.false) in
     let z = (kernel_lawful c.args.part).none in
     rw (q.0, q.1, z.0, z.1) (sym (weighted_none c.args.p.point.weight))
 
@@ -71,21 +71,21 @@ weigh_sizes-requires c =
     let r = c.requires.reached_ranges in
     let h = c.requires.span_ranges in
     let l = low c.args.p c.args.s c.ranges.a r h c.scaled_square-whole.ensures.0 c.distance_at-i.ensures c.distance_at-j.ensures
-    c.foot_inside-foot.ensures c.max_u64.ensures c.low_q-low.ensures in
+    c.foot_inside-foot.ensures c.max-farther.ensures c.low_q-low.ensures in
     let g = high c.args.p c.args.s c.ranges.a r h c.scaled_square-whole.ensures.0 c.distance_at-i.ensures c.distance_at-j.ensures
-    c.foot_inside-foot.ensures c.min_u64.ensures c.greatest_q-high.ensures in (
+    c.foot_inside-foot.ensures c.min-nearer.ensures c.greatest_q-high.ensures in (
       sized {w = w64} (param r.ranges.weight_small tt),
       le_trans (le_of_eq l) (qlo-le _ _ _),
       le_trans (le_of_eq g) (qhi-le _ _ _ (positive_small r.ranges.square_low r.ranges.square_high).0 h.ticks_low),
     )
 
-pub returns : goal.returns
+pub returns-then-comes_within : goal.returns-then-comes_within
 unfolding point_bounds
-returns c =
+returns-then-comes_within c =
     let r = c.requires.reached_ranges in
     let h = c.requires.span_ranges in
     let l = low c.args.p c.args.s c.ranges.a r h c.scaled_square-whole.ensures.0 c.distance_at-i.ensures c.distance_at-j.ensures
-    c.foot_inside-foot.ensures c.max_u64.ensures c.low_q-low.ensures in
+    c.foot_inside-foot.ensures c.max-farther.ensures c.low_q-low.ensures in
     let g = high c.args.p c.args.s c.ranges.a r h c.scaled_square-whole.ensures.0 c.distance_at-i.ensures c.distance_at-j.ensures
-    c.foot_inside-foot.ensures c.min_u64.ensures c.greatest_q-high.ensures in
+    c.foot_inside-foot.ensures c.min-nearer.ensures c.greatest_q-high.ensures in
     weigh_is (kernel_of c.args.part) c.weigh_sizes.ensures (param {w = w64} r.ranges.weight_small tt).is l g

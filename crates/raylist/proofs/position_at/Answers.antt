@@ -3,7 +3,7 @@ use lib.IntN.{ℤ}
 use mir.Syntax.{w32}
 use mir.Facts.{to_z-of_z}
 use borrow.Author.Rules.{sfits_of}
-use Rattle.field.specs.declared.Position.{Position}
+use Rattle.field.specs.Vectors.{Position}
 use Rattle.raylist.specs.Input.{position_at}
 use Rattle.raylist.proofs.position_at.Goals as goal
 

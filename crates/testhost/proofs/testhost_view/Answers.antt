@@ -10,7 +10,7 @@ returns c =
     let a = c.args in
     let ray = view_ray_of a.ax a.ay a.az a.bx a.by a.bz in
     let e = c.view_by_value-counted.ensures in
-    let v = viewed _ _ c.totals_in.ensures c.put_totals.ensures {ray' = ray} _ _ c.view_ray_of.ensures e.viewed e.counted in
+    let v = viewed _ _ c.from.ensures c.into.ensures {ray' = ray} _ _ c.ray_of.ensures e.viewed e.counted in
     record {
       answer = c.view_number.ensures ∙ ap view_number v.0;
       place = ap (λ (x : Float). x ∷ []) (c.place_in.ensures ∙ ap view_place v.0);

@@ -1,13 +1,11 @@
 -- The constants of the code are bit patterns, which `of_bits` turns into `fin s m e`.
-use Rattle.std.proofs.Common.{◌≡◌, true, false, T, ℤ, sym, ap, ◌∙◌, w32, w64}
+use Rattle.std.proofs.Common.{◌≡◌, true, false, T, ℤ, sym, ap, ◌∙◌, w32, w64, Some, None}
 use Rattle.std.specs.Float.{float_to_signed}
 use lib.Ieee.{Float, binary32, of_bits, neg, le, eq, fits, of_int}
 use denote.Floats.{passes}
 use Rattle.exact.proofs.Machine.{back, small_fits, same, known}
 use Rattle.exact.proofs.Tests.{true_both}
-use Rattle.view.specs.Steps.{times64, steps_of, Exactly}
-use Rattle.view.specs.declared.Steps.{Steps}
-use Rattle.view.specs.declared.Steps.TheVariants.{Whole, Refused}
+use Rattle.view.specs.Steps.{times64, steps_of, Exactly, Steps}
 use Rattle.view.proofs.Whole.{inside, Ranged, ranged, unranged, cut_of, truncates, cut_is, cut_small, castable, whole_yes, whole_no, exactly}
 use Rattle.view.proofs.in_steps.Goals as goal
 
@@ -22,14 +20,14 @@ module _ (x p : Float) (held : T (fits binary32 x)) (is : p ≡ times64 x) where
   range low high = ranged x held (ap inside (sym is) ∙ true_both low high)
 
   -- one test failed
-  out : inside p ≡ false → Refused ≡ steps_of x
+  out : inside p ≡ false → None ≡ steps_of x
   out h = sym (unranged x held (ap inside (sym is) ∙ h))
 
-  out_low : le (neg (of_bits binary32 1157619712)) p ≡ false → Refused ≡ steps_of x
+  out_low : le (neg (of_bits binary32 1157619712)) p ≡ false → None ≡ steps_of x
   unfolding of_bits neg
   out_low low = out (rw low)
 
-  out_high : le (neg (of_bits binary32 1157619712)) p ≡ true → le p (of_bits binary32 1157619712) ≡ false → Refused ≡ steps_of x
+  out_high : le (neg (of_bits binary32 1157619712)) p ≡ true → le p (of_bits binary32 1157619712) ≡ false → None ≡ steps_of x
   unfolding of_bits neg
   out_high low high = out (rw (low, high))
 
@@ -39,13 +37,13 @@ module _ (x p : Float) (held : T (fits binary32 x)) (is : p ≡ times64 x) where
     cut = let e = given ∙ cut_is is r in known w64 (rw e (small_fits (cut_small r) tt)) e
 
     -- the comparison with it cast back
-    yes : eq (of_int binary32 (back w64 n)) p ≡ true → Whole (back w32 (back w64 n)) ≡ steps_of x
+    yes : eq (of_int binary32 (back w64 n)) p ≡ true → Some (back w32 (back w64 n)) ≡ steps_of x
     yes h =
-        ap (λ (z : ℤ). Whole (back w32 z)) cut
-        ∙ ap Whole (same w32 (cut_of r) (small_fits (cut_small r) tt))
+        ap (λ (z : ℤ). Some (back w32 z)) cut
+        ∙ ap Some (same w32 (cut_of r) (small_fits (cut_small r) tt))
         ∙ whole_yes is r (ap (λ (z : ℤ). eq (of_int binary32 z) p) (sym cut) ∙ h)
 
-    no : eq (of_int binary32 (back w64 n)) p ≡ false → Refused ≡ steps_of x
+    no : eq (of_int binary32 (back w64 n)) p ≡ false → None ≡ steps_of x
     no h = whole_no is r (ap (λ (z : ℤ). eq (of_int binary32 z) p) (sym cut) ∙ h)
 
 pub truncating_f32_to_i64-n-requires : goal.truncating_f32_to_i64-n-requires

@@ -1,16 +1,14 @@
-use Rattle.std.proofs.Common.{◌≡◌, ℕ, ◌+◌, ◌*◌, ◌≤◌, List, length, map}
+use Rattle.std.proofs.Common.{◌≡◌, ℕ, ◌-◌, ◌*◌, List, map}
 use lib.IntN.{ℤ}
-use Rattle.record.specs.Questions.{first_no}
-use Rattle.record.specs.declared.Verdict.{Verdict}
+use Rattle.record.specs.Questions.{first_no, Verdict}
 use Rattle.part.specs.File.{records_questions}
 use Rattle.writer.specs.Given.{nodes_in, record_of}
 use Rattle.writer.proofs.nodes_questions.Given as goal
 
+-- the answer about so many nodes from a place on, with the values held before them
 abbrev pub row : List ℤ → ℕ → ℕ → ℕ → Verdict
 row l left at held = first_no (records_questions (map record_of (nodes_in l left at)) held)
 
-abbrev pub invariant-loop-left : goal.invariant-loop-left
-invariant-loop-left l = (l.at + 6 * l.left ≤ length l.numbers) × (row l.numbers l.left l.at l.held ≡ row l.numbers l.n 0 0)
-
-abbrev pub decreases-loop-left : goal.decreases-loop-left
-decreases-loop-left l = l.left
+-- what is left of the nodes, with the values held, is answered as the whole row is
+abbrev pub invariant-loop-k : goal.invariant-loop-k
+invariant-loop-k l = row l.numbers (l.n - l.k) (6 * l.k) l.held ≡ row l.numbers l.n 0 0

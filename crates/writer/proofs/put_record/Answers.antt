@@ -1,32 +1,32 @@
-use Rattle.std.proofs.Common.{◌≡◌, ℕ, ◌<◌, List, ap, ◌∙◌, rules}
-use lib.IntN.{nat_abs}
-use lib.Seq.{sets}
 use mir.Syntax.{w32}
 use mir.Val.{SFits}
 use mir.Facts.{to_z-of_z}
-use Rattle.exact.proofs.Machine.{small_fits}
-use Rattle.record.specs.declared.Node.{Node}
-use Rattle.writer.specs.Bytes.{bits16, words, record_bytes}
-use Rattle.writer.proofs.Records.{record_words}
+use lib.Seq.{sets}
+use lib.IntN.{nat_abs}
+use Rattle.std.proofs.Common.{rules, ◌∙◌, [], ◌∷◌, ◌++◌, arith}
+use Rattle.exact.proofs.Buffers.{sets-then}
+use Rattle.writer.specs.Bytes.{u16_bytes, i16_bytes, record_bytes}
+use Rattle.writer.proofs.Numbers.{le_i16}
 use Rattle.writer.proofs.put_record.Goals as goal
 
-stored : (n : Node) → nat_abs n.kind < 256 → {l : List ℕ} (out : List ℕ) (to : ℕ) {k r x y z w : ℕ} → l ≡ sets out to (words k r x y z w)
-    → k ≡ nat_abs n.kind → r ≡ nat_abs n.radius → x ≡ bits16 n.x → y ≡ bits16 n.y → z ≡ bits16 n.z → w ≡ bits16 n.weight
-    → l ≡ sets out to (record_bytes n)
-stored n h out to {k} {r} {x} {y} {z} {w} e ek er ex ey ez ew =
-    let f : words k r x y z w ≡ record_bytes n = rw (ek, er, ex, ey, ez, ew) (record_words n h) in
-    e ∙ ap (sets out to) f
-
 pub returns : goal.returns
+unfolding record_bytes u16_bytes i16_bytes
 returns c =
     let n = c.args.n in
+    let out = c.args.out.now in
+    let to = c.args.to in
     let q = c.requires.storable in
-    let k : SFits w32 n.kind = search rules in
-    let r : SFits w32 n.radius = search rules in
-    let x : SFits w32 n.x = small_fits q.x tt in
-    let y : SFits w32 n.y = small_fits q.y tt in
-    let z : SFits w32 n.z = small_fits q.z tt in
-    let w : SFits w32 n.weight = small_fits q.weight tt in
-    stored n q.kind_below c.args.out.now c.args.to c.put_words.ensures (ap nat_abs (to_z-of_z k)) (ap nat_abs (to_z-of_z r))
-    (c.bits_of-x.ensures ∙ ap bits16 (to_z-of_z x)) (c.bits_of-y.ensures ∙ ap bits16 (to_z-of_z y))
-    (c.bits_of-z.ensures ∙ ap bits16 (to_z-of_z z)) (c.bits_of-w.ensures ∙ ap bits16 (to_z-of_z w))
+    let kind : SFits w32 n.kind = search rules in
+    let radius : SFits w32 n.radius = search rules in
+    let k = nat_abs n.kind ∷ 0 ∷ [] in
+    let r = k ++ u16_bytes (nat_abs n.radius) in
+    let x = r ++ i16_bytes n.x in
+    let y = x ++ i16_bytes n.y in
+    let z = y ++ i16_bytes n.z in
+    let a = c.put_bytes.ensures ∙ (λ i. sets out to (nat_abs (to_z-of_z kind i) ∷ 0 ∷ [])) in
+    let b = sets-then k (u16_bytes (nat_abs n.radius)) out to a c.put_bytes-2.ensures
+    (c.to_le_bytes.ensures ∙ (λ i. u16_bytes (nat_abs (to_z-of_z radius i)))) (omega arith) in
+    let d = sets-then r (i16_bytes n.x) out to b c.put_bytes-3.ensures (c.to_le_bytes-2.ensures ∙ le_i16 n.x q.x) (omega arith) in
+    let e = sets-then x (i16_bytes n.y) out to d c.put_bytes-4.ensures (c.to_le_bytes-3.ensures ∙ le_i16 n.y q.y) (omega arith) in
+    let f = sets-then y (i16_bytes n.z) out to e c.put_bytes-5.ensures (c.to_le_bytes-4.ensures ∙ le_i16 n.z q.z) (omega arith) in
+    sets-then z (i16_bytes n.weight) out to f c.put_bytes-6.ensures (c.to_le_bytes-5.ensures ∙ le_i16 n.weight q.weight) (omega arith)
