@@ -5,3 +5,4 @@ pub mod Serving
 pub mod Stack
 pub mod Turns
 pub mod Places
+pub mod Searchables

@@ -26,11 +26,12 @@ use Rattle.loading.specs.Prepared.{prepared_room}
 use Rattle.loading.specs.Loading.{ray_questions, check_ray, loaded_ray}
 use Rattle.loading.proofs.Loading.{accepted_ray}
 use Rattle.bounds.proofs.Serving.{Serves, serves}
-use Rattle.halving.specs.declared.Search.{Search}
+use Rattle.halving.specs.declared.search.Search.{Search}
 use Rattle.halving.specs.declared.Cast.{Cast}
 use Rattle.halving.specs.declared.FirstHit.{FirstHit}
 use Rattle.halving.specs.Answers.{CastAnswer, HitAnswer}
-use Rattle.halving.specs.Search.{state_in, Searchable, Halvable}
+use Rattle.halving.specs.Search.{state_in, Halvable}
+use Rattle.bounds.specs.Probe.{Searchable}
 use Rattle.halving.specs.Halving.{probe_count, span_marks, walk, handed}
 use Rattle.halving.specs.FirstHit.{hit}
 use Rattle.halving.proofs.Within.{span_ranges, Agree, count_within, marks_within, walk_within, hit_within}
@@ -44,10 +45,6 @@ use Rattle.cast.proofs.Questions.{asked_before}
 use Rattle.cast.proofs.Bits.{packed_same}
 use Rattle.cast.proofs.Ticks.{ray_marks_at}
 use Rattle.cast.proofs.Demands.{cast_demands, hit_demands, column_demands}
-
--- what the search is handed
-abbrev searched : Summary → ℕ → ℕ → Search
-searched part T budget = record { part = part; ticks = T; budget = budget }
 
 pub whole : (k : ℕ) → Halvable (2 ^ k) 0 (2 ^ k) k
 whole k = record { size = refl; end = omega arith }
@@ -66,31 +63,36 @@ module _ (file : List ℕ) (ray : Ray) where
   -- the array that `load_ray` leaves
   module _ (lent l : List ℤ) (long : length lent ≡ prepared_room) (loaded : l ≡ loaded_ray file ray lent)
       {part : Summary} (e : check_ray file ray ≡ Ok part) where
-    served : Serves file ray l part
-    served = rw loaded (serves file ray lent long e)
+    serving : Serves file ray l part
+    serving = rw loaded (serves file ray lent long e)
 
     pub prepared_long : prepared_room ≡ length l
-    prepared_long = served.long
+    prepared_long = serving.long
 
-    pub searchable : (T budget : ℕ) → 1 ≤ T → T ≤ 4096 → Searchable l (searched part T budget)
-    searchable T budget low high = record { probe = served.probe; ticks_low = low; ticks_high = high }
+    pub searchable : {T : ℕ} → 1 ≤ T → T ≤ 4096 → Searchable l part T
+    searchable low high = record { probe = serving.probe; ticks_low = low; ticks_high = high }
 
-    pub states_are : (T budget : ℕ) → 1 ≤ T → T ≤ 4096 → Agree T (state_in l (searched part T budget)) (ray_state (solid_of file) ray T)
+  -- a search in it
+  module _ (lent : List ℤ) (s : Search) (long : length lent ≡ prepared_room) (loaded : s.prepared.now ≡ loaded_ray file ray lent)
+      (e : check_ray file ray ≡ Ok s.part) where
+    served : Serves file ray s.prepared.now s.part
+    served = serving lent s.prepared.now long loaded e
+
+    pub states_are : Agree s.ticks (state_in s) (ray_state (solid_of file) ray s.ticks)
     unfolding state_in ray_state
-    states_are T budget low high t len h = served.states (ticks t len T) (span_ranges (omega arith) h low high)
+    states_are t len h = served.states (ticks t len s.ticks) (span_ranges (omega arith) h s.searchable.ticks_low s.searchable.ticks_high)
 
     -- a tick's bit, by the marks that the search finds, is its own
-    pub bits_are : (k budget : ℕ) → 2 ^ k ≤ 2048 → (t : ℕ) → t < 2 ^ k
-        → bit_in l (searched part (2 ^ k) budget) (span_marks (state_in l (searched part (2 ^ k) budget)) k 0) t
-        ≡ bit_of (solid_of file) ray (2 ^ k) t
+    pub bits_are : (k : ℕ) → s.ticks ≡ 2 ^ k → 2 ^ k ≤ 2048 → (t : ℕ) → t < 2 ^ k
+        → bit_in s (span_marks (state_in s) k 0) t ≡ bit_of (solid_of file) ray s.ticks t
     unfolding bit_in middle_in bit_of middle_solid
-    bits_are k budget few t h =
-        let agree = states_are (2 ^ k) budget (pow_pos k) (omega arith) in
-        let of-ray = span_ranges {s = middle t (2 ^ k)} (omega arith) (omega arith) (omega arith) (omega arith) in
-        let mark : get_or (span_marks (state_in l (searched part (2 ^ k) budget)) k 0) t empty_mark ≡ mark_of (solid_of file) ray (2 ^ k) t
+    bits_are k size few t h =
+        let agree = states_are in
+        let of-ray = span_ranges {s = middle t s.ticks} (omega arith) (omega arith) (omega arith) (omega arith) in
+        let mark : get_or (span_marks (state_in s) k 0) t empty_mark ≡ mark_of (solid_of file) ray s.ticks t
         = ap (λ (ms : List ℕ). get_or ms t empty_mark) (marks_within agree k 0 (omega arith))
-        ∙ ray_marks_at (solid_of file) (accepted_ray file ray e).valid ray k t empty_mark h in
-        ap₂ tick_bit mark (ap₂ solid_by served.iso_is (served.bounds (middle t (2 ^ k)) of-ray))
+        ∙ rw size (ray_marks_at (solid_of file) (accepted_ray file ray e).valid ray k t empty_mark h) in
+        ap₂ tick_bit mark (ap₂ solid_by served.iso_is (served.bounds (middle t s.ticks) of-ray))
 
 -- ---- a cast that hands over T ticks' marks: in the states it finds an answer, and marks of every tick
 

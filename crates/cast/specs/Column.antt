@@ -1,6 +1,6 @@
 -- A column (document 01, "Calls"; document 02, P6): "bit t mod 8 (lowest is 0) of byte t/8 (rounded down) is 1 if tick t is" solid, "else 0". Inside
 -- it is, empty it is not, and "A crossing tick is solid if the low and high bounds at its exact middle add up to at least 2 × iso × 2³²."
-use Rattle.std.specs.Prelude.{ℕ, zero, suc, ◌+◌, ◌*◌, ◌^◌, ◌<◌, ◌≡◌, List, [], ◌∷◌, ◌++◌, Bool, cond, ◌&&◌, ◌||◌, eqb, get_or, ℤ}
+use Rattle.std.specs.Prelude.{ℕ, zero, suc, ◌+◌, ◌*◌, ◌^◌, ◌<◌, ◌≡◌, List, [], ◌∷◌, ◌++◌, Bool, cond, ◌&&◌, ◌||◌, eqb, get_or}
 use Rattle.std.specs.Prelude.{Result, Ok, Err}
 use Rattle.record.specs.Questions.{number}
 use Rattle.record.specs.declared.Refusal.{Refusal}
@@ -10,7 +10,7 @@ use Rattle.field.specs.Solid.{Solid}
 use Rattle.field.specs.Bounds.{empty_mark, crossing_mark, inside_mark, tree_bounds, solid_by}
 use Rattle.field.specs.Marks.{mark_of}
 use Rattle.bounds.specs.Probe.{prepared_bounds}
-use Rattle.halving.specs.declared.Search.{Search}
+use Rattle.halving.specs.declared.search.Search.{Search}
 use Rattle.halving.specs.Halving.{probe_count, span_marks}
 use Rattle.cast.specs.declared.ByteCast.{ByteCast}
 
@@ -62,11 +62,11 @@ column_looked_at n (Ok probes) = n
 
 -- ---- for the inner functions: from the prepared numbers, whether the middle of tick t is solid, and its bit by the ticks' marks
 
-unfoldable pub middle_in : List ℤ → Search → ℕ → Bool
-middle_in l s t = solid_by s.part.iso (prepared_bounds s.part l (middle t s.ticks))
+unfoldable pub middle_in : Search → ℕ → Bool
+middle_in s t = solid_by s.part.iso (prepared_bounds s.part s.prepared.now (middle t s.ticks))
 
-unfoldable pub bit_in : List ℤ → Search → List ℕ → ℕ → ℕ
-bit_in l s marks t = tick_bit (get_or marks t empty_mark) (middle_in l s t)
+unfoldable pub bit_in : Search → List ℕ → ℕ → ℕ
+bit_in s marks t = tick_bit (get_or marks t empty_mark) (middle_in s t)
 
 -- ---- for the search, over any state of spans, and any choice of the ticks whose middles are solid
 

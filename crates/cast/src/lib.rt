@@ -9,7 +9,7 @@ ghost use Rattle.field.specs.Solid.{solid_of};
 ghost use Rattle.field.specs.Bounds.{state_mark};
 ghost use Rattle.loading.specs.Loading.{loaded_ray};
 ghost use Rattle.halving.specs.Halving.{probe_count, span_marks};
-ghost use Rattle.halving.specs.Search.{Searchable, Halvable, state_in};
+ghost use Rattle.halving.specs.Search.{Halvable, state_in};
 ghost use Rattle.cast.specs.Ticks.{exponent};
 ghost use Rattle.cast.specs.Column.{column_bytes, middle_in, tick_bit, bit_in, packed, span_bit, SpanBits};
 ghost use Rattle.cast.specs.Questions.{check_buffer};
@@ -64,10 +64,9 @@ pub fn load_buffer(
 // ---- a column's bits
 
 // Whether the middle of tick t is solid. Here and below, the lent array `held` is working space.
-fn middle_solid(held: &mut [Bounds; HELD], prepared: &[i64], s: Search, t: usize) -> bool
-    requires searchable { Searchable prepared.now s }
+fn middle_solid(held: &mut [Bounds; HELD], s: Search, t: usize) -> bool
     requires t_lt_ticks { (t < s.ticks) × (s.ticks ≤ 2048) }
-    ensures { result ≡ middle_in prepared.now s t }
+    ensures { result ≡ middle_in s.entry t }
 {
     let place = (2 * t + 1) as u64;
     let span = Span {
@@ -75,19 +74,18 @@ fn middle_solid(held: &mut [Bounds; HELD], prepared: &[i64], s: Search, t: usize
         to: place,
         ticks: (2 * s.ticks) as u64,
     };
-    span_solid(held, prepared, s.part, span)
+    span_solid(held, s.prepared, s.part, span)
 }
 
 // Eight bits, each that of tick t in this state: 1 if it is inside, or crossing and its middle is solid.
 #[tactic(auto, unfolding(crate::specs::Column::tick_bit))]
-fn tick_byte(held: &mut [Bounds; HELD], prepared: &[i64], s: Search, t: usize, state: State) -> u8
-    requires searchable { Searchable prepared.now s }
+fn tick_byte(held: &mut [Bounds; HELD], s: Search, t: usize, state: State) -> u8
     requires t_lt_ticks { (t < s.ticks) × (s.ticks ≤ 2048) }
-    ensures { result ≡ 255 * tick_bit (state_mark state) (middle_in prepared.now s t) }
+    ensures { result ≡ 255 * tick_bit (state_mark state) (middle_in s.entry t) }
 {
     match state {
         State::Inside => 255,
-        State::Crossing if middle_solid(held, prepared, s, t) => 255,
+        State::Crossing if middle_solid(held, s, t) => 255,
         _ => 0,
     }
 }
@@ -103,29 +101,27 @@ fn joined(low: u8, high: u8, n: usize) -> u8
 // Casts the len ticks from tick first on, two to the power level and at most eight.
 fn byte_span(
     held: &mut [Bounds; HELD],
-    prepared: &[i64],
     s: Search,
     first: usize,
     len: usize,
     level: usize,
 ) -> ByteCast
-    requires searchable { Searchable prepared.now s }
     requires halvable { Halvable s.ticks first len level }
     requires level_bound { (level ≤ 3) × (s.ticks ≤ 2048) }
-    ensures { SpanBits (state_in prepared.now s) (middle_in prepared.now s) level first len result }
+    ensures { SpanBits (state_in s.entry) (middle_in s.entry) level first len result }
 {
-    match probe(held, prepared, s, first, len) {
+    match probe(held, s, first, len) {
         State::Crossing if level > 0 => {
             let half = len / 2;
-            let left = byte_span(held, prepared, s, first, half, level - 1);
-            let right = byte_span(held, prepared, s, first + half, half, level - 1);
+            let left = byte_span(held, s, first, half, level - 1);
+            let right = byte_span(held, s, first + half, half, level - 1);
             ByteCast {
                 bits: joined(left.bits, right.bits, half),
                 probes: 1 + left.probes + right.probes,
             }
         }
         state => ByteCast {
-            bits: tick_byte(held, prepared, s, first, state) >> (8 - len),
+            bits: tick_byte(held, s, first, state) >> (8 - len),
             probes: 1,
         },
     }
@@ -135,50 +131,47 @@ fn byte_span(
 fn column_span(
     out: &mut [u8],
     held: &mut [Bounds; HELD],
-    prepared: &[i64],
     s: Search,
     first: usize,
     len: usize,
     level: usize,
 ) -> u32
-    requires searchable { Searchable prepared.now s }
     requires halvable { Halvable (s.ticks / 8) first len level }
     requires ticks_bound { (s.ticks ≤ 2048) × (first + len ≤ length out.old) }
-    ensures probes { result ≡ probe_count (state_in prepared.now s) (level + 3) (8 * first) }
+    ensures probes { result ≡ probe_count (state_in s.entry) (level + 3) (8 * first) }
     ensures bytes { out.new ≡ sets out.old first
-        (packed (span_bit (state_in prepared.now s) (middle_in prepared.now s) (level + 3) (8 * first)) len) }
+        (packed (span_bit (state_in s.entry) (middle_in s.entry) (level + 3) (8 * first)) len) }
 {
     let tick = 8 * first;
     if level == 0 {
-        let byte = byte_span(held, prepared, s, tick, 8, 3);
+        let byte = byte_span(held, s, tick, 8, 3);
         out[first] = byte.bits;
         return byte.probes;
     }
-    match probe(held, prepared, s, tick, 8 * len) {
+    match probe(held, s, tick, 8 * len) {
         State::Crossing => {
             let half = len / 2;
-            let left = column_span(out, held, prepared, s, first, half, level - 1);
-            let right = column_span(out, held, prepared, s, first + half, half, level - 1);
+            let left = column_span(out, held, s, first, half, level - 1);
+            let right = column_span(out, held, s, first + half, half, level - 1);
             1 + left + right
         }
         state => {
-            fill(out, first, len, tick_byte(held, prepared, s, tick, state));
+            fill(out, first, len, tick_byte(held, s, tick, state));
             1
         }
     }
 }
 
 // A whole ray's column; answers the probes.
-fn cast_column(out: &mut [u8], held: &mut [Bounds; HELD], prepared: &[i64], s: Search) -> u32
-    requires searchable { Searchable prepared.now s }
+fn cast_column(out: &mut [u8], held: &mut [Bounds; HELD], s: Search) -> u32
     requires ticks_value { s.ticks ≡ 2 ^ exponent }
     requires column_bytes_in_bounds { column_bytes ≤ length out.old }
-    ensures probes { result ≡ probe_count (state_in prepared.now s) exponent 0 }
+    ensures probes { result ≡ probe_count (state_in s.entry) exponent 0 }
     ensures bytes { out.new
-        ≡ packed (bit_in prepared.now s (span_marks (state_in prepared.now s) exponent 0)) column_bytes
+        ≡ packed (bit_in s.entry (span_marks (state_in s.entry) exponent 0)) column_bytes
         ++ drop column_bytes out.old }
 {
-    column_span(out, held, prepared, s, 0, COLUMN, COLUMN_LEVEL)
+    column_span(out, held, s, 0, COLUMN, COLUMN_LEVEL)
 }
 
 // ---- the calls
@@ -193,11 +186,12 @@ pub fn full_cast(file: &[u8], ray: Ray, budget: u32, marks: &mut [u8]) -> Result
     let mut held = [NO_BOUNDS; HELD];
     let part = load_buffer(file, ray, TICKS, marks.len(), &mut prepared)?;
     let s = Search {
+        prepared: &prepared[..],
         part,
         ticks: TICKS,
         budget,
     };
-    Ok(cast_ticks(marks, &mut held, &prepared[..], s, LEVEL))
+    Ok(cast_ticks(marks, &mut held, s, LEVEL))
 }
 
 // First hit: the first tick that is not empty.
@@ -209,11 +203,12 @@ pub fn first_hit(file: &[u8], ray: Ray, budget: u32) -> Result<FirstHit, Refusal
     let mut held = [NO_BOUNDS; HELD];
     let part = load_ray(file, ray, &mut prepared)?;
     let s = Search {
+        prepared: &prepared[..],
         part,
         ticks: TICKS,
         budget,
     };
-    Ok(hit_ticks(&mut held, &prepared[..], s, LEVEL))
+    Ok(hit_ticks(&mut held, s, LEVEL))
 }
 
 // Column: a bit for each tick, 1 if it is inside, or crossing and its middle is solid; and the probes.
@@ -226,9 +221,10 @@ pub fn column(file: &[u8], ray: Ray, bits: &mut [u8]) -> Result<u32, Refusal>
     let mut held = [NO_BOUNDS; HELD];
     let part = load_buffer(file, ray, COLUMN, bits.len(), &mut prepared)?;
     let s = Search {
+        prepared: &prepared[..],
         part,
         ticks: TICKS,
         budget: ENOUGH,
     };
-    Ok(cast_column(bits, &mut held, &prepared[..], s))
+    Ok(cast_column(bits, &mut held, s))
 }

@@ -8,11 +8,14 @@ ghost use Rattle.std.proofs.lemmas.List.Edits.{sets};
 ghost use Rattle.field.specs.Bounds.{state_mark, not_looked_at};
 ghost use Rattle.halving.specs.Halving.{span_marks, walk, cast_looked_at, handed};
 ghost use Rattle.halving.specs.FirstHit.{hit};
-ghost use Rattle.halving.specs.Search.{Searchable, Halvable, state_in};
+ghost use Rattle.halving.specs.Search.{Halvable, state_in};
 
 use bounds::{HELD, span_state};
 use field::{Bounds, NOT_LOOKED_AT, Span, State};
-use part::Summary;
+
+mod search;
+
+pub use search::Search;
 
 // How a full cast ends: complete, or spent at the tick reached; and its probes.
 #[derive(Clone, Copy, Debug, PartialEq, Eq)]
@@ -30,34 +33,19 @@ pub enum FirstHit {
     Spent { tick: usize, probes: u32 },
 }
 
-// What stays the same through a search: what does through the call, the number of ticks of the ray and the budget.
-#[derive(Clone, Copy)]
-pub struct Search {
-    pub part: Summary,
-    pub ticks: usize,
-    pub budget: u32,
-}
-
 // ---- the search
 
 // One probe: the state of the ticks from tick first on. Here and below, the lent array `held` is a probe's working space.
-pub fn probe(
-    held: &mut [Bounds; HELD],
-    prepared: &[i64],
-    s: Search,
-    first: usize,
-    len: usize,
-) -> State
-    requires searchable { Searchable prepared.now s }
+pub fn probe(held: &mut [Bounds; HELD], s: Search, first: usize, len: usize) -> State
     requires len_bound { first + len ≤ s.ticks }
-    ensures { state_mark result ≡ state_in prepared.now s first len }
+    ensures { state_mark result ≡ state_in s.entry first len }
 {
     let span = Span {
         from: first as u64,
         to: (first + len) as u64,
         ticks: s.ticks as u64,
     };
-    span_state(held, prepared, s.part, span)
+    span_state(held, s.prepared, s.part, span)
 }
 
 // The same mark for len ticks from tick first on.
@@ -72,19 +60,17 @@ pub fn fill(marks: &mut [u8], first: usize, len: usize, mark: u8)
 fn cast_span(
     out: &mut [u8],
     held: &mut [Bounds; HELD],
-    prepared: &[i64],
     s: Search,
     first: usize,
     len: usize,
     level: usize,
     made: u32,
 ) -> Cast
-    requires searchable { Searchable prepared.now s }
     requires halvable { Halvable s.ticks first len level }
     requires len_in_bounds { first + len ≤ length out.old }
-    ensures answer { result ≡ walk (state_in prepared.now s) s.budget level first made }
+    ensures answer { result ≡ walk (state_in s.entry) s.entry.budget level first made }
     ensures bytes { out.new ≡ sets out.old first
-        (take (cast_looked_at (first + len) result - first) (span_marks (state_in prepared.now s) level first)) }
+        (take (cast_looked_at (first + len) result - first) (span_marks (state_in s.entry) level first)) }
 {
     if s.budget <= made {
         return Cast::Spent {
@@ -92,15 +78,15 @@ fn cast_span(
             probes: made,
         };
     }
-    match probe(held, prepared, s, first, len) {
+    match probe(held, s, first, len) {
         State::Crossing if level > 0 => {
             let half = len / 2;
             let middle = first + half;
-            let left = cast_span(out, held, prepared, s, first, half, level - 1, made + 1);
+            let left = cast_span(out, held, s, first, half, level - 1, made + 1);
             let Cast::Complete { probes } = left else {
                 return left;
             };
-            cast_span(out, held, prepared, s, middle, half, level - 1, probes)
+            cast_span(out, held, s, middle, half, level - 1, probes)
         }
         state => {
             fill(out, first, len, state.mark());
@@ -132,21 +118,14 @@ pub fn mark_rest(out: &mut [u8], ticks: usize, cast: Cast)
 }
 
 // Casts a whole ray, of two to the power level ticks, and hands over every tick's mark, 3 for those not looked at.
-pub fn cast_ticks(
-    out: &mut [u8],
-    held: &mut [Bounds; HELD],
-    prepared: &[i64],
-    s: Search,
-    level: usize,
-) -> Cast
-    requires searchable { Searchable prepared.now s }
+pub fn cast_ticks(out: &mut [u8], held: &mut [Bounds; HELD], s: Search, level: usize) -> Cast
     requires halvable { Halvable s.ticks 0 s.ticks level }
     requires ticks_in_bounds { s.ticks ≤ length out.old }
-    ensures answer { result ≡ walk (state_in prepared.now s) s.budget level 0 0 }
+    ensures answer { result ≡ walk (state_in s.entry) s.entry.budget level 0 0 }
     ensures bytes { out.new
-        ≡ handed s.ticks result (span_marks (state_in prepared.now s) level 0) ++ drop s.ticks out.old }
+        ≡ handed s.entry.ticks result (span_marks (state_in s.entry) level 0) ++ drop s.entry.ticks out.old }
 {
-    let cast = cast_span(out, held, prepared, s, 0, s.ticks, level, 0);
+    let cast = cast_span(out, held, s, 0, s.ticks, level, 0);
     mark_rest(out, s.ticks, cast);
     cast
 }
@@ -154,16 +133,14 @@ pub fn cast_ticks(
 // The first hit in the len ticks from tick first on, two to the power level, with some probes made before.
 fn hit_span(
     held: &mut [Bounds; HELD],
-    prepared: &[i64],
     s: Search,
     first: usize,
     len: usize,
     level: usize,
     made: u32,
 ) -> FirstHit
-    requires searchable { Searchable prepared.now s }
     requires halvable { Halvable s.ticks first len level }
-    ensures { result ≡ hit (state_in prepared.now s) s.budget level first made }
+    ensures { result ≡ hit (state_in s.entry) s.entry.budget level first made }
 {
     if s.budget <= made {
         return FirstHit::Spent {
@@ -171,16 +148,16 @@ fn hit_span(
             probes: made,
         };
     }
-    match probe(held, prepared, s, first, len) {
+    match probe(held, s, first, len) {
         State::Empty => FirstHit::Clear { probes: made + 1 },
         State::Crossing if level > 0 => {
             let half = len / 2;
             let middle = first + half;
-            let left = hit_span(held, prepared, s, first, half, level - 1, made + 1);
+            let left = hit_span(held, s, first, half, level - 1, made + 1);
             let FirstHit::Clear { probes } = left else {
                 return left;
             };
-            hit_span(held, prepared, s, middle, half, level - 1, probes)
+            hit_span(held, s, middle, half, level - 1, probes)
         }
         state => FirstHit::Hit {
             tick: first,
@@ -191,10 +168,9 @@ fn hit_span(
 }
 
 // The first hit on a whole ray, of two to the power level ticks.
-pub fn hit_ticks(held: &mut [Bounds; HELD], prepared: &[i64], s: Search, level: usize) -> FirstHit
-    requires searchable { Searchable prepared.now s }
+pub fn hit_ticks(held: &mut [Bounds; HELD], s: Search, level: usize) -> FirstHit
     requires halvable { Halvable s.ticks 0 s.ticks level }
-    ensures { result ≡ hit (state_in prepared.now s) s.budget level 0 0 }
+    ensures { result ≡ hit (state_in s.entry) s.entry.budget level 0 0 }
 {
-    hit_span(held, prepared, s, 0, s.ticks, level, 0)
+    hit_span(held, s, 0, s.ticks, level, 0)
 }

@@ -6,7 +6,7 @@ ghost use Rattle.std.specs.Prelude.{◌≡◌, ◌++◌, ◌≤◌, length, drop
 ghost use Rattle.std.proofs.lemmas.List.Edits.{sets};
 ghost use Rattle.field.specs.Solid.{solid_of};
 ghost use Rattle.halving.specs.Halving.{handed};
-ghost use Rattle.halving.specs.Search.{Searchable, state_in};
+ghost use Rattle.halving.specs.Search.{state_in};
 ghost use Rattle.cast.specs.Ticks.{exponent};
 ghost use Rattle.march.specs.Marching.{first_length, cut, marks_of, marks_from, march_marks, march};
 ghost use Rattle.march.specs.Candidates.{Waiting, Followed};
@@ -42,23 +42,16 @@ fn cut_to(first: usize, length: usize, ticks: usize) -> usize
 
 // Probes a candidate, marks its ticks if they are known then, and gives the next one. Here and below, the lent array `held` is a probe's working
 // space.
-fn advance(
-    out: &mut [u8],
-    held: &mut [Bounds; HELD],
-    prepared: &[i64],
-    s: Search,
-    at: Candidate,
-) -> Candidate
-    requires searchable { Searchable prepared.now s }
+fn advance(out: &mut [u8], held: &mut [Bounds; HELD], s: Search, at: Candidate) -> Candidate
     requires waiting { Waiting s.ticks at }
     requires ticks_in_bounds { s.ticks ≤ length out.old }
-    ensures next { Followed (state_in prepared.now s) s.ticks at result }
+    ensures next { Followed (state_in s.entry) s.entry.ticks at result }
     ensures bytes { out.new
-        ≡ sets out.old at.first (marks_of (state_in prepared.now s) s.ticks at.first at.length) }
+        ≡ sets out.old at.first (marks_of (state_in s.entry) s.entry.ticks at.first at.length) }
 {
     let Candidate { first, length } = at;
     let len = cut_to(first, length, s.ticks);
-    match probe(held, prepared, s, first, len) {
+    match probe(held, s, first, len) {
         State::Crossing if len > 1 => Candidate {
             first,
             length: len / 2,
@@ -74,12 +67,11 @@ fn advance(
 }
 
 // Marches through the ray as far as the budget goes, and marks the ticks that it looks at.
-fn march_on(out: &mut [u8], held: &mut [Bounds; HELD], prepared: &[i64], s: Search) -> Cast
-    requires searchable { Searchable prepared.now s }
+fn march_on(out: &mut [u8], held: &mut [Bounds; HELD], s: Search) -> Cast
     requires ticks_in_bounds { s.ticks ≤ length out.old }
-    ensures answer { result ≡ march (state_in prepared.now s) s.ticks s.budget }
+    ensures answer { result ≡ march (state_in s.entry) s.entry.ticks s.entry.budget }
     ensures bytes { out.new
-        ≡ sets out.old 0 (marks_from (state_in prepared.now s) s.ticks s.budget 0 first_length) }
+        ≡ sets out.old 0 (marks_from (state_in s.entry) s.entry.ticks s.entry.budget 0 first_length) }
 {
     let mut at = Candidate {
         first: 0,
@@ -93,21 +85,20 @@ fn march_on(out: &mut [u8], held: &mut [Bounds; HELD], prepared: &[i64], s: Sear
                 probes: made,
             };
         }
-        at = advance(out, held, prepared, s, at);
+        at = advance(out, held, s, at);
         made += 1;
     }
     Cast::Complete { probes: made }
 }
 
 // Marches through a whole ray and hands over every tick's mark, 3 for those not looked at.
-fn march_ticks(out: &mut [u8], held: &mut [Bounds; HELD], prepared: &[i64], s: Search) -> Cast
-    requires searchable { Searchable prepared.now s }
+fn march_ticks(out: &mut [u8], held: &mut [Bounds; HELD], s: Search) -> Cast
     requires ticks_in_bounds { s.ticks ≤ length out.old }
-    ensures answer { result ≡ march (state_in prepared.now s) s.ticks s.budget }
+    ensures answer { result ≡ march (state_in s.entry) s.entry.ticks s.entry.budget }
     ensures bytes { out.new
-        ≡ handed s.ticks result (march_marks (state_in prepared.now s) s.ticks) ++ drop s.ticks out.old }
+        ≡ handed s.entry.ticks result (march_marks (state_in s.entry) s.entry.ticks) ++ drop s.entry.ticks out.old }
 {
-    let cast = march_on(out, held, prepared, s);
+    let cast = march_on(out, held, s);
     mark_rest(out, s.ticks, cast);
     cast
 }
@@ -124,9 +115,10 @@ pub fn marching_cast(file: &[u8], ray: Ray, budget: u32, marks: &mut [u8]) -> Re
     let mut held = [NO_BOUNDS; HELD];
     let part = load_buffer(file, ray, TICKS, marks.len(), &mut prepared)?;
     let s = Search {
+        prepared: &prepared[..],
         part,
         ticks: TICKS,
         budget,
     };
-    Ok(march_ticks(marks, &mut held, &prepared[..], s))
+    Ok(march_ticks(marks, &mut held, s))
 }

@@ -108,21 +108,25 @@ fn comes_within(foot: bool, whole: u64, i: u64, j: u64) -> bool
 // ---- bounds
 
 // 65536 (1 - d/s) rounded down, and 0 where d is s or more.
-#[tactic(auto, unfolding(field::specs::Bounds::low_q))]
+#[tactic(auto, using(field::proofs::Quotients::low_q_zero), unfolding(field::specs::Bounds::low_q))]
 fn low_q(s: u64, d: u64) -> u64
     requires { (0 < s) × (s ≤ 2 ^ 46) }
     ensures { result ≡ low_q s d }
 {
-    65536 * s.saturating_sub(d) / s
+    if s <= d { 0 } else { 65536 * (s - d) / s }
 }
 
 // The same, rounded up.
-#[tactic(auto, using(crate::proofs::Ceilings::div_ceil_is), unfolding(field::specs::Bounds::high_q))]
+#[tactic(auto, using(field::proofs::Quotients::high_q_zero), unfolding(field::specs::Bounds::high_q, exact::specs::Rounding::ceil))]
 fn high_q(s: u64, d: u64) -> u64
     requires { (0 < s) × (s ≤ 2 ^ 46) }
     ensures { result ≡ high_q s d }
 {
-    (65536 * s.saturating_sub(d)).div_ceil(s)
+    if s <= d {
+        0
+    } else {
+        (65536 * (s - d) + (s - 1)) / s
+    }
 }
 
 // 65536 times u, rounded up, at the place nearest the centre.
@@ -178,7 +182,7 @@ fn weigh_sizes(part: Summary, w: i64, low: u64, high: u64) -> Bounds
         2 => weigh(
             w,
             low * low * low / 65536,
-            (high * high * high).div_ceil(65536),
+            (high * high * high + 65535) / 65536,
         ),
         _ => weigh(w, low * low, high * high),
     }

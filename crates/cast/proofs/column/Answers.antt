@@ -6,10 +6,12 @@ use Rattle.cast.specs.Ticks.{exponent}
 use Rattle.cast.proofs.Calls.{ray_accepted, room_enough, searchable, states_are, bits_are, column_refused, column_made}
 use Rattle.cast.proofs.column.Goals as goal
 
-pub cast_column-requires-clause-searchable : goal.cast_column-requires-clause-searchable
-cast_column-requires-clause-searchable c =
-    searchable _ _ _ _ refl c.load_buffer.ensures.numbers (ray_accepted _ _ _ _ (sym c.load_buffer.ensures.answer ∙ c.in_ok-part.was))
-    _ _ (omega arith) (omega arith)
+pub invariant_of-s : goal.invariant_of-s
+invariant_of-s c =
+    record {
+      searchable = searchable _ _ _ _ refl c.load_buffer.ensures.numbers (ray_accepted _ _ _ _ (sym c.load_buffer.ensures.answer ∙ c.in_ok-part.was))
+          (omega arith) (omega arith);
+    }
 
 pub cast_column-requires-clause-column_bytes_in_bounds : goal.cast_column-requires-clause-column_bytes_in_bounds
 cast_column-requires-clause-column_bytes_in_bounds c = room_enough _ _ _ _ (sym c.load_buffer.ensures.answer ∙ c.in_ok-part.was)
@@ -25,7 +27,7 @@ returns c =
     let w = c.cast_column in
     let loaded = c.load_buffer.ensures.numbers in
     let ray = ray_accepted _ _ _ _ e in
-    let agree = states_are c.args.file.now c.args.ray _ _ refl loaded ray 1024 2047 (omega arith) (omega arith) in
-    let same = bits_are c.args.file.now c.args.ray _ _ refl loaded ray exponent 2047 (omega arith) in
-    let f = column_made c.args.file.now c.args.ray c.args.bits.now w.result w.new.out _ agree same e w.ensures.probes w.ensures.bytes in
+    let f = column_made c.args.file.now c.args.ray c.args.bits.now w.result w.new.out _
+    (states_are c.args.file.now c.args.ray _ _ refl loaded ray)
+    (bits_are c.args.file.now c.args.ray _ _ refl loaded ray exponent refl (omega arith)) e w.ensures.probes w.ensures.bytes in
     record { answer = f.0; bytes = f.1.0; demands = f.1.1 }

@@ -5,9 +5,10 @@ use Rattle.record.proofs.Questions.{passed_on}
 use Rattle.cast.proofs.Calls.{searchable, states_are, hit_refused, hit_made}
 use Rattle.cast.proofs.first_hit.Goals as goal
 
-pub hit_ticks-requires-clause-searchable : goal.hit_ticks-requires-clause-searchable
-hit_ticks-requires-clause-searchable c =
-    searchable _ _ _ _ refl c.load_ray.ensures.numbers (sym c.load_ray.ensures.answer ∙ c.in_ok-part.was) _ _ (omega arith) (omega arith)
+pub invariant_of-s : goal.invariant_of-s
+invariant_of-s c = record {
+  searchable = searchable _ _ _ _ refl c.load_ray.ensures.numbers (sym c.load_ray.ensures.answer ∙ c.in_ok-part.was) (omega arith) (omega arith);
+}
 
 pub returns-in_err-part : goal.returns-in_err-part
 returns-in_err-part c =
@@ -17,6 +18,6 @@ returns-in_err-part c =
 pub returns : goal.returns
 returns c =
     let e = sym c.load_ray.ensures.answer ∙ c.in_ok-part.was in
-    let agree = states_are c.args.file.now c.args.ray _ _ refl c.load_ray.ensures.numbers e 1024 c.args.budget (omega arith) (omega arith) in
-    let f = hit_made c.args.file.now c.args.ray c.args.budget c.hit_ticks.result agree e c.hit_ticks.ensures in
+    let f = hit_made c.args.file.now c.args.ray c.args.budget c.hit_ticks.result
+    (states_are c.args.file.now c.args.ray _ _ refl c.load_ray.ensures.numbers e) e c.hit_ticks.ensures in
     record { answer = f.0; demands = f.1 }

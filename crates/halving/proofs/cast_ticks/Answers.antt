@@ -6,10 +6,10 @@ use Rattle.halving.proofs.cast_ticks.Goals as goal
 pub mark_rest-requires-clause-cast_bound : goal.mark_rest-requires-clause-cast_bound
 mark_rest-requires-clause-cast_bound c =
     let a = c.args in
-    reached_within (state_in a.prepared.now a.s) a.s.budget a.level a.s.ticks c.requires.halvable.size _ c.cast_span-cast.ensures.answer
+    reached_within (state_in a.s) a.s.budget a.level a.s.ticks c.requires.halvable.size _ c.cast_span-cast.ensures.answer
 
 pub returns-clause-bytes : goal.returns-clause-bytes
 returns-clause-bytes c =
     let a = c.args in
-    walk-handed (state_in a.prepared.now a.s) a.s.budget a.level a.s.ticks c.requires.halvable.size _ c.cast_span-cast.ensures.answer
+    walk-handed (state_in a.s) a.s.budget a.level a.s.ticks c.requires.halvable.size _ c.cast_span-cast.ensures.answer
     _ _ _ c.requires.ticks_in_bounds c.cast_span-cast.ensures.bytes c.mark_rest.ensures

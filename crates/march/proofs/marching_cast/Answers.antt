@@ -6,13 +6,15 @@ use Rattle.cast.proofs.Calls.{ray_accepted, room_enough, searchable, states_are}
 use Rattle.march.proofs.Calls.{march_refused, march_made}
 use Rattle.march.proofs.marching_cast.Goals as goal
 
-pub march_ticks-requires-clause-searchable : goal.march_ticks-requires-clause-searchable
-march_ticks-requires-clause-searchable c =
-    searchable _ _ _ _ refl c.load_buffer.ensures.numbers (ray_accepted _ _ _ _ (sym c.load_buffer.ensures.answer ∙ c.in_ok-part.was))
-    _ _ (omega arith) (omega arith)
+pub invariant_of-s : goal.invariant_of-s
+invariant_of-s c =
+    record {
+      searchable = searchable _ _ _ _ refl c.load_buffer.ensures.numbers (ray_accepted _ _ _ _ (sym c.load_buffer.ensures.answer ∙ c.in_ok-part.was))
+          (omega arith) (omega arith);
+    }
 
-pub march_ticks-requires-clause-ticks_in_bounds : goal.march_ticks-requires-clause-ticks_in_bounds
-march_ticks-requires-clause-ticks_in_bounds c = room_enough _ _ _ _ (sym c.load_buffer.ensures.answer ∙ c.in_ok-part.was)
+pub march_ticks-requires : goal.march_ticks-requires
+march_ticks-requires c = record { ticks_in_bounds = room_enough _ _ _ _ (sym c.load_buffer.ensures.answer ∙ c.in_ok-part.was) }
 
 pub returns-in_err-part : goal.returns-in_err-part
 returns-in_err-part c =
@@ -23,7 +25,6 @@ pub returns : goal.returns
 returns c =
     let e = sym c.load_buffer.ensures.answer ∙ c.in_ok-part.was in
     let w = c.march_ticks in
-    let agree = states_are c.args.file.now c.args.ray _ _ refl c.load_buffer.ensures.numbers (ray_accepted _ _ _ _ e)
-    1024 c.args.budget (omega arith) (omega arith) in
-    let f = march_made c.args.file.now c.args.ray c.args.budget c.args.marks.now w.result w.new.out agree e w.ensures.answer w.ensures.bytes in
+    let f = march_made c.args.file.now c.args.ray c.args.budget c.args.marks.now w.result w.new.out
+    (states_are c.args.file.now c.args.ray _ _ refl c.load_buffer.ensures.numbers (ray_accepted _ _ _ _ e)) e w.ensures.answer w.ensures.bytes in
     record { answer = f.0; bytes = f.1.0; demands = f.1.1 }
