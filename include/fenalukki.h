@@ -129,7 +129,7 @@
  *   state, uses no heap and no global data, and writes nothing but its buffer,
  *   bounds, totals or, in a read, numbers. Calls may run at the same time on
  *   several threads, on one file too, as long as what they write differs.
- *   A cast or the bounds at a place need about 20 KiB of stack, the other calls
+ *   A cast or the bounds at a place need about 18 KiB of stack, the other calls
  *   less than 1 KiB, measured on the compiled archive; 64 KiB are tested to be
  *   enough.
  *

@@ -64,9 +64,9 @@ pub fn load_buffer(
 // ---- a column's bits
 
 // Whether the middle of tick t is solid. Here and below, the lent array `held` is working space.
-fn middle_solid(held: &mut [Bounds; HELD], s: Search, t: usize) -> bool
-    requires t_lt_ticks { (t < s.ticks) × (s.ticks ≤ 2048) }
-    ensures { result ≡ middle_in s.entry t }
+fn middle_solid(held: &mut [Bounds; HELD], s: &Search, t: usize) -> bool
+    requires t_lt_ticks { (t < s.now.ticks) × (s.now.ticks ≤ 2048) }
+    ensures { result ≡ middle_in s.now t }
 {
     let place = (2 * t + 1) as u64;
     let span = Span {
@@ -79,9 +79,9 @@ fn middle_solid(held: &mut [Bounds; HELD], s: Search, t: usize) -> bool
 
 // Eight bits, each that of tick t in this state: 1 if it is inside, or crossing and its middle is solid.
 #[tactic(auto, unfolding(crate::specs::Column::tick_bit))]
-fn tick_byte(held: &mut [Bounds; HELD], s: Search, t: usize, state: State) -> u8
-    requires t_lt_ticks { (t < s.ticks) × (s.ticks ≤ 2048) }
-    ensures { result ≡ 255 * tick_bit (state_mark state) (middle_in s.entry t) }
+fn tick_byte(held: &mut [Bounds; HELD], s: &Search, t: usize, state: State) -> u8
+    requires t_lt_ticks { (t < s.now.ticks) × (s.now.ticks ≤ 2048) }
+    ensures { result ≡ 255 * tick_bit (state_mark state) (middle_in s.now t) }
 {
     match state {
         State::Inside => 255,
@@ -101,14 +101,14 @@ fn joined(low: u8, high: u8, n: usize) -> u8
 // Casts the len ticks from tick first on, two to the power level and at most eight.
 fn byte_span(
     held: &mut [Bounds; HELD],
-    s: Search,
+    s: &Search,
     first: usize,
     len: usize,
     level: usize,
 ) -> ByteCast
-    requires halvable { Halvable s.ticks first len level }
-    requires level_bound { (level ≤ 3) × (s.ticks ≤ 2048) }
-    ensures { SpanBits (state_in s.entry) (middle_in s.entry) level first len result }
+    requires halvable { Halvable s.now.ticks first len level }
+    requires level_bound { (level ≤ 3) × (s.now.ticks ≤ 2048) }
+    ensures { SpanBits (state_in s.now) (middle_in s.now) level first len result }
 {
     match probe(held, s, first, len) {
         State::Crossing if level > 0 => {
@@ -131,16 +131,16 @@ fn byte_span(
 fn column_span(
     out: &mut [u8],
     held: &mut [Bounds; HELD],
-    s: Search,
+    s: &Search,
     first: usize,
     len: usize,
     level: usize,
 ) -> u32
-    requires halvable { Halvable (s.ticks / 8) first len level }
-    requires ticks_bound { (s.ticks ≤ 2048) × (first + len ≤ length out.old) }
-    ensures probes { result ≡ probe_count (state_in s.entry) (level + 3) (8 * first) }
+    requires halvable { Halvable (s.now.ticks / 8) first len level }
+    requires ticks_bound { (s.now.ticks ≤ 2048) × (first + len ≤ length out.old) }
+    ensures probes { result ≡ probe_count (state_in s.now) (level + 3) (8 * first) }
     ensures bytes { out.new ≡ sets out.old first
-        (packed (span_bit (state_in s.entry) (middle_in s.entry) (level + 3) (8 * first)) len) }
+        (packed (span_bit (state_in s.now) (middle_in s.now) (level + 3) (8 * first)) len) }
 {
     let tick = 8 * first;
     if level == 0 {
@@ -163,12 +163,12 @@ fn column_span(
 }
 
 // A whole ray's column; answers the probes.
-fn cast_column(out: &mut [u8], held: &mut [Bounds; HELD], s: Search) -> u32
-    requires ticks_value { s.ticks ≡ 2 ^ exponent }
+fn cast_column(out: &mut [u8], held: &mut [Bounds; HELD], s: &Search) -> u32
+    requires ticks_value { s.now.ticks ≡ 2 ^ exponent }
     requires column_bytes_in_bounds { column_bytes ≤ length out.old }
-    ensures probes { result ≡ probe_count (state_in s.entry) exponent 0 }
+    ensures probes { result ≡ probe_count (state_in s.now) exponent 0 }
     ensures bytes { out.new
-        ≡ packed (bit_in s.entry (span_marks (state_in s.entry) exponent 0)) column_bytes
+        ≡ packed (bit_in s.now (span_marks (state_in s.now) exponent 0)) column_bytes
         ++ drop column_bytes out.old }
 {
     column_span(out, held, s, 0, COLUMN, COLUMN_LEVEL)
@@ -191,7 +191,7 @@ pub fn full_cast(file: &[u8], ray: Ray, budget: u32, marks: &mut [u8]) -> Result
         ticks: TICKS,
         budget,
     };
-    Ok(cast_ticks(marks, &mut held, s, LEVEL))
+    Ok(cast_ticks(marks, &mut held, &s, LEVEL))
 }
 
 // First hit: the first tick that is not empty.
@@ -208,7 +208,7 @@ pub fn first_hit(file: &[u8], ray: Ray, budget: u32) -> Result<FirstHit, Refusal
         ticks: TICKS,
         budget,
     };
-    Ok(hit_ticks(&mut held, s, LEVEL))
+    Ok(hit_ticks(&mut held, &s, LEVEL))
 }
 
 // Column: a bit for each tick, 1 if it is inside, or crossing and its middle is solid; and the probes.
@@ -226,5 +226,5 @@ pub fn column(file: &[u8], ray: Ray, bits: &mut [u8]) -> Result<u32, Refusal>
         ticks: TICKS,
         budget: ENOUGH,
     };
-    Ok(cast_column(bits, &mut held, s))
+    Ok(cast_column(bits, &mut held, &s))
 }

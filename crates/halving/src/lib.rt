@@ -9,9 +9,11 @@ ghost use Rattle.field.specs.Bounds.{state_mark, not_looked_at};
 ghost use Rattle.halving.specs.Halving.{span_marks, walk, cast_looked_at, handed};
 ghost use Rattle.halving.specs.FirstHit.{hit};
 ghost use Rattle.halving.specs.Search.{Halvable, state_in};
+ghost use Rattle.halving.specs.Answers.{cast_reaches};
 
 use bounds::{HELD, span_state};
 use field::{Bounds, NOT_LOOKED_AT, Span, State};
+use record::Refusal;
 
 mod search;
 
@@ -36,9 +38,9 @@ pub enum FirstHit {
 // ---- the search
 
 // One probe: the state of the ticks from tick first on. Here and below, the lent array `held` is a probe's working space.
-pub fn probe(held: &mut [Bounds; HELD], s: Search, first: usize, len: usize) -> State
-    requires len_bound { first + len ≤ s.ticks }
-    ensures { state_mark result ≡ state_in s.entry first len }
+pub fn probe(held: &mut [Bounds; HELD], s: &Search, first: usize, len: usize) -> State
+    requires len_bound { first + len ≤ s.now.ticks }
+    ensures { state_mark result ≡ state_in s.now first len }
 {
     let span = Span {
         from: first as u64,
@@ -60,17 +62,17 @@ pub fn fill(marks: &mut [u8], first: usize, len: usize, mark: u8)
 fn cast_span(
     out: &mut [u8],
     held: &mut [Bounds; HELD],
-    s: Search,
+    s: &Search,
     first: usize,
     len: usize,
     level: usize,
     made: u32,
 ) -> Cast
-    requires halvable { Halvable s.ticks first len level }
+    requires halvable { Halvable s.now.ticks first len level }
     requires len_in_bounds { first + len ≤ length out.old }
-    ensures answer { result ≡ walk (state_in s.entry) s.entry.budget level first made }
+    ensures answer { result ≡ walk (state_in s.now) s.now.budget level first made }
     ensures bytes { out.new ≡ sets out.old first
-        (take (cast_looked_at (first + len) result - first) (span_marks (state_in s.entry) level first)) }
+        (take (cast_looked_at (first + len) result - first) (span_marks (state_in s.now) level first)) }
 {
     if s.budget <= made {
         return Cast::Spent {
@@ -95,52 +97,53 @@ fn cast_span(
     }
 }
 
-// How many of n ticks a cast looked at.
-#[tactic(auto, unfolding(crate::specs::Halving::cast_looked_at))]
-fn looked_at(n: usize, cast: Cast) -> usize
-    ensures { result ≡ cast_looked_at n cast }
+// How many of n ticks were looked at by what a cast answers.
+#[tactic(auto, unfolding(crate::specs::Halving::cast_looked_at, crate::specs::Answers::cast_reaches))]
+fn looked_at(n: usize, answer: Result<Cast, Refusal>) -> usize
+    ensures { result ≡ cast_reaches n answer }
 {
-    match cast {
-        Cast::Complete { probes: _ } => n,
-        Cast::Spent { tick, probes: _ } => tick,
+    match answer {
+        Err(_) => 0,
+        Ok(Cast::Complete { .. }) => n,
+        Ok(Cast::Spent { tick, .. }) => tick,
     }
 }
 
 // Marks 3 the ticks that a cast of so many did not look at.
-pub fn mark_rest(out: &mut [u8], ticks: usize, cast: Cast)
-    requires cast_bound { cast_looked_at ticks cast ≤ ticks }
+pub fn mark_rest(out: &mut [u8], ticks: usize, answer: Result<Cast, Refusal>)
+    requires answer_bound { cast_reaches ticks answer ≤ ticks }
     requires ticks_in_bounds { ticks ≤ length out.old }
     ensures { out.new
-        ≡ sets out.old (cast_looked_at ticks cast) (replicate (ticks - cast_looked_at ticks cast) not_looked_at) }
+        ≡ sets out.old (cast_reaches ticks answer) (replicate (ticks - cast_reaches ticks answer) not_looked_at) }
 {
-    let reached = looked_at(ticks, cast);
+    let reached = looked_at(ticks, answer);
     fill(out, reached, ticks - reached, NOT_LOOKED_AT);
 }
 
 // Casts a whole ray, of two to the power level ticks, and hands over every tick's mark, 3 for those not looked at.
-pub fn cast_ticks(out: &mut [u8], held: &mut [Bounds; HELD], s: Search, level: usize) -> Cast
-    requires halvable { Halvable s.ticks 0 s.ticks level }
-    requires ticks_in_bounds { s.ticks ≤ length out.old }
-    ensures answer { result ≡ walk (state_in s.entry) s.entry.budget level 0 0 }
+pub fn cast_ticks(out: &mut [u8], held: &mut [Bounds; HELD], s: &Search, level: usize) -> Cast
+    requires halvable { Halvable s.now.ticks 0 s.now.ticks level }
+    requires ticks_in_bounds { s.now.ticks ≤ length out.old }
+    ensures answer { result ≡ walk (state_in s.now) s.now.budget level 0 0 }
     ensures bytes { out.new
-        ≡ handed s.entry.ticks result (span_marks (state_in s.entry) level 0) ++ drop s.entry.ticks out.old }
+        ≡ handed s.now.ticks result (span_marks (state_in s.now) level 0) ++ drop s.now.ticks out.old }
 {
     let cast = cast_span(out, held, s, 0, s.ticks, level, 0);
-    mark_rest(out, s.ticks, cast);
+    mark_rest(out, s.ticks, Ok(cast));
     cast
 }
 
 // The first hit in the len ticks from tick first on, two to the power level, with some probes made before.
 fn hit_span(
     held: &mut [Bounds; HELD],
-    s: Search,
+    s: &Search,
     first: usize,
     len: usize,
     level: usize,
     made: u32,
 ) -> FirstHit
-    requires halvable { Halvable s.ticks first len level }
-    ensures { result ≡ hit (state_in s.entry) s.entry.budget level first made }
+    requires halvable { Halvable s.now.ticks first len level }
+    ensures { result ≡ hit (state_in s.now) s.now.budget level first made }
 {
     if s.budget <= made {
         return FirstHit::Spent {
@@ -168,9 +171,9 @@ fn hit_span(
 }
 
 // The first hit on a whole ray, of two to the power level ticks.
-pub fn hit_ticks(held: &mut [Bounds; HELD], s: Search, level: usize) -> FirstHit
-    requires halvable { Halvable s.ticks 0 s.ticks level }
-    ensures { result ≡ hit (state_in s.entry) s.entry.budget level 0 0 }
+pub fn hit_ticks(held: &mut [Bounds; HELD], s: &Search, level: usize) -> FirstHit
+    requires halvable { Halvable s.now.ticks 0 s.now.ticks level }
+    ensures { result ≡ hit (state_in s.now) s.now.budget level 0 0 }
 {
     hit_span(held, s, 0, s.ticks, level, 0)
 }

@@ -42,12 +42,12 @@ fn cut_to(first: usize, length: usize, ticks: usize) -> usize
 
 // Probes a candidate, marks its ticks if they are known then, and gives the next one. Here and below, the lent array `held` is a probe's working
 // space.
-fn advance(out: &mut [u8], held: &mut [Bounds; HELD], s: Search, at: Candidate) -> Candidate
-    requires waiting { Waiting s.ticks at }
-    requires ticks_in_bounds { s.ticks ≤ length out.old }
-    ensures next { Followed (state_in s.entry) s.entry.ticks at result }
+fn advance(out: &mut [u8], held: &mut [Bounds; HELD], s: &Search, at: Candidate) -> Candidate
+    requires waiting { Waiting s.now.ticks at }
+    requires ticks_in_bounds { s.now.ticks ≤ length out.old }
+    ensures next { Followed (state_in s.now) s.now.ticks at result }
     ensures bytes { out.new
-        ≡ sets out.old at.first (marks_of (state_in s.entry) s.entry.ticks at.first at.length) }
+        ≡ sets out.old at.first (marks_of (state_in s.now) s.now.ticks at.first at.length) }
 {
     let Candidate { first, length } = at;
     let len = cut_to(first, length, s.ticks);
@@ -67,11 +67,11 @@ fn advance(out: &mut [u8], held: &mut [Bounds; HELD], s: Search, at: Candidate) 
 }
 
 // Marches through the ray as far as the budget goes, and marks the ticks that it looks at.
-fn march_on(out: &mut [u8], held: &mut [Bounds; HELD], s: Search) -> Cast
-    requires ticks_in_bounds { s.ticks ≤ length out.old }
-    ensures answer { result ≡ march (state_in s.entry) s.entry.ticks s.entry.budget }
+fn march_on(out: &mut [u8], held: &mut [Bounds; HELD], s: &Search) -> Cast
+    requires ticks_in_bounds { s.now.ticks ≤ length out.old }
+    ensures answer { result ≡ march (state_in s.now) s.now.ticks s.now.budget }
     ensures bytes { out.new
-        ≡ sets out.old 0 (marks_from (state_in s.entry) s.entry.ticks s.entry.budget 0 first_length) }
+        ≡ sets out.old 0 (marks_from (state_in s.now) s.now.ticks s.now.budget 0 first_length) }
 {
     let mut at = Candidate {
         first: 0,
@@ -92,14 +92,14 @@ fn march_on(out: &mut [u8], held: &mut [Bounds; HELD], s: Search) -> Cast
 }
 
 // Marches through a whole ray and hands over every tick's mark, 3 for those not looked at.
-fn march_ticks(out: &mut [u8], held: &mut [Bounds; HELD], s: Search) -> Cast
-    requires ticks_in_bounds { s.ticks ≤ length out.old }
-    ensures answer { result ≡ march (state_in s.entry) s.entry.ticks s.entry.budget }
+fn march_ticks(out: &mut [u8], held: &mut [Bounds; HELD], s: &Search) -> Cast
+    requires ticks_in_bounds { s.now.ticks ≤ length out.old }
+    ensures answer { result ≡ march (state_in s.now) s.now.ticks s.now.budget }
     ensures bytes { out.new
-        ≡ handed s.entry.ticks result (march_marks (state_in s.entry) s.entry.ticks) ++ drop s.entry.ticks out.old }
+        ≡ handed s.now.ticks result (march_marks (state_in s.now) s.now.ticks) ++ drop s.now.ticks out.old }
 {
     let cast = march_on(out, held, s);
-    mark_rest(out, s.ticks, cast);
+    mark_rest(out, s.ticks, Ok(cast));
     cast
 }
 
@@ -120,5 +120,5 @@ pub fn marching_cast(file: &[u8], ray: Ray, budget: u32, marks: &mut [u8]) -> Re
         ticks: TICKS,
         budget,
     };
-    Ok(march_ticks(marks, &mut held, s))
+    Ok(march_ticks(marks, &mut held, &s))
 }

@@ -2,7 +2,7 @@
 
 #![tactic(auto)]
 
-ghost use Rattle.std.specs.Prelude.{◌≡◌, ◌+◌, ◌*◌, ◌≤◌, ◌∷◌, [], length};
+ghost use Rattle.std.specs.Prelude.{◌≡◌, ◌+◌, ◌*◌, ◌≤◌, ◌∷◌, ◌++◌, [], length, drop};
 ghost use Rattle.std.proofs.lemmas.List.Edits.{sets};
 ghost use Rattle.part.specs.File.{nodes_from, check_file, Says};
 ghost use Rattle.nodes.specs.Numbers.{numbers, loaded};
@@ -13,13 +13,23 @@ use record::{Node, Refusal, node_at};
 // Six numbers for each of the 511 records that question 4 allows.
 pub const NUMBERS: usize = 3066;
 
-// The six numbers of a node, from a place of the array on.
+// The six numbers of a node, at the front of a room.
 #[tactic(auto, unfolding(crate::specs::Numbers::numbers))]
+fn put_front(n: Node, room: &mut [i32])
+    requires { 6 ≤ length room.old }
+    ensures { room.new ≡ numbers (n ∷ []) ++ drop 6 room.old }
+{
+    if let Some(place) = room.first_chunk_mut() {
+        *place = [n.kind, n.radius, n.x, n.y, n.z, n.weight];
+    }
+}
+
+// The six numbers of a node, from a place of the array on.
 fn put_node(n: Node, out: &mut [i32], to: usize)
     requires { to + 6 ≤ length out.old }
     ensures { out.new ≡ sets out.old to (numbers (n ∷ [])) }
 {
-    out[to..to + 6].copy_from_slice(&[n.kind, n.radius, n.x, n.y, n.z, n.weight]);
+    put_front(n, &mut out[to..]);
 }
 
 // The numbers of n records, from the array's start on.

@@ -12,9 +12,9 @@ overflow_sub-result t c = (up_to_eight c.requires.halvable.size c.requires.level
 pub returns-in_default : goal.returns-in_default
 returns-in_default t c =
     let a = c.args in
-    let mid = middle_in a.s in
+    let mid = middle_in a.s.now in
     let size = c.requires.halvable.size in
-    bits_finished (state_in a.s) mid a.level a.first a.len size (λ e. search rules)
+    bits_finished (state_in a.s.now) mid a.level a.first a.len size (λ e. search rules)
     _ (up_to_eight size c.requires.level_bound.0).1
     (ap (λ (m : ℕ). m / 2 ^ (8 - a.len)) (c.tick_byte.ensures ∙ ap (λ (m : ℕ). 255 * tick_bit m (mid a.first)) c.probe.ensures))
     refl
@@ -41,6 +41,6 @@ pub returns-in-Crossing : goal.returns-in-Crossing
 returns-in-Crossing t c =
     let a = c.args in
     let size = c.requires.halvable.size in
-    bits_halved (state_in a.s) (middle_in a.s) a.level a.first a.len (a.level - 1) (a.len / 2)
+    bits_halved (state_in a.s.now) (middle_in a.s.now) a.level a.first a.len (a.level - 1) (a.len / 2)
     size (omega arith) (half_size size c.if-level-gt0.true) (sym c.in-Crossing.ensures)
     c.byte_span-left.result c.byte_span-right.result _ c.byte_span-left.ensures c.byte_span-right.ensures c.joined.ensures refl

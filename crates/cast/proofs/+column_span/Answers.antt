@@ -10,7 +10,7 @@ use Rattle.cast.proofs.+column_span.Goals as goal
 pub returns-then-level-eq0 : goal.returns-then-level-eq0
 returns-then-level-eq0 t c =
     let a = c.args in
-    let f = byte_made (state_in a.s) (middle_in a.s) a.level a.first a.len c.requires.halvable.size
+    let f = byte_made (state_in a.s.now) (middle_in a.s.now) a.level a.first a.len c.requires.halvable.size
     a.out.now c.byte_span-byte.result c.if-level-eq0.true c.byte_span-byte.ensures in
     record { probes = f.0; bytes = f.1 }
 
@@ -49,7 +49,7 @@ returns-in-Crossing t c =
     let r = c.column_span-right in
     let size = c.requires.halvable.size in
     let several : 1 ≤ a.level = omega (arith, c.if-level-eq0.false) in
-    let f = bytes_halved (state_in a.s) (middle_in a.s) a.level a.first a.len size a.out.now
+    let f = bytes_halved (state_in a.s.now) (middle_in a.s.now) a.level a.first a.len size a.out.now
     (a.level - 1) (a.len / 2) (omega arith) (half_size size several) (sym c.in-Crossing.ensures)
     l.result r.result l.new.out r.new.out l.ensures.probes l.ensures.bytes r.ensures.probes r.ensures.bytes in
     record { probes = f.0; bytes = f.1 }
@@ -58,8 +58,8 @@ returns-in-Crossing t c =
 pub returns-in_default : goal.returns-in_default
 returns-in_default t c =
     let a = c.args in
-    let st = state_in a.s in
-    let mid = middle_in a.s in
+    let st = state_in a.s.now in
+    let mid = middle_in a.s.now in
     let f = bytes_finished st mid a.level a.first a.len c.requires.halvable.size a.out.now c.fill.new.marks
     (λ e. search rules)
     (c.fill.ensures

@@ -15,8 +15,8 @@ pub returns-clause-bytes : goal.returns-clause-bytes
 unfolding bit_in span_bit
 returns-clause-bytes c =
     let a = c.args in
-    let st = state_in a.s in
-    let mid = middle_in a.s in
-    column_whole st mid exponent (bit_in a.s (span_marks st exponent 0))
+    let st = state_in a.s.now in
+    let mid = middle_in a.s.now in
+    column_whole st mid exponent (bit_in a.s.now (span_marks st exponent 0))
     (λ t. ap (λ (x : ℕ). tick_bit (get_or (span_marks st exponent 0) t empty_mark) (mid x)) (zero-add t))
     a.out.now _ c.requires.column_bytes_in_bounds c.column_span.ensures.bytes

@@ -16,20 +16,20 @@ ended (first.Spent t p) h = tt
 pub returns-then-s-made : goal.returns-then-s-made
 returns-then-s-made t c =
     let a = c.args in
-    sym (hit_out (state_in a.s) a.s.budget a.level a.first a.made c.if-s-made.true)
+    sym (hit_out (state_in a.s.now) a.s.now.budget a.level a.first a.made c.if-s-made.true)
 
 -- the span is empty
 pub returns-in-Empty : goal.returns-in-Empty
 returns-in-Empty t c =
     let a = c.args in
-    hit_clear (state_in a.s) a.s.budget a.level a.first a.made a.len c.requires.halvable.size
+    hit_clear (state_in a.s.now) a.s.now.budget a.level a.first a.made a.len c.requires.halvable.size
     c.if-s-made.false (sym c.in-Empty.ensures)
 
 -- it is inside, or one tick that is not empty
 pub returns-in_default : goal.returns-in_default
 returns-in_default t c =
     let a = c.args in
-    hit_found (state_in a.s) a.s.budget a.level a.first a.made a.len c.requires.halvable.size
+    hit_found (state_in a.s.now) a.s.now.budget a.level a.first a.made a.len c.requires.halvable.size
     c.if-s-made.false c.mark.result (c.mark.ensures ∙ c.probe.ensures) (λ e. search rules) (λ e. search rules)
 
 -- the left half is clear
@@ -37,7 +37,7 @@ pub returns-in-Clear : goal.returns-in-Clear
 returns-in-Clear t c =
     let a = c.args in
     let size = c.requires.halvable.size in
-    hit_right (state_in a.s) a.s.budget a.level a.first a.made a.len size c.if-s-made.false
+    hit_right (state_in a.s.now) a.s.now.budget a.level a.first a.made a.len size c.if-s-made.false
     (a.level - 1) (a.len / 2) (omega arith) (half_size size c.if-level-gt0.true) (sym c.in-Crossing.ensures)
     c.hit_span-left.result c.hit_span.result c.in-Clear.probes c.in-Clear.is c.hit_span-left.ensures c.hit_span.ensures
 
@@ -46,6 +46,6 @@ pub returns-in_default-left : goal.returns-in_default-left
 returns-in_default-left t c =
     let a = c.args in
     let size = c.requires.halvable.size in
-    hit_left (state_in a.s) a.s.budget a.level a.first a.made a.len size c.if-s-made.false
+    hit_left (state_in a.s.now) a.s.now.budget a.level a.first a.made a.len size c.if-s-made.false
     (a.level - 1) (a.len / 2) (omega arith) (half_size size c.if-level-gt0.true) (sym c.in-Crossing.ensures)
     c.hit_span-left.result (ended c.hit_span-left.result c.in_default-left.not-Clear) c.hit_span-left.ensures

@@ -8,7 +8,7 @@ use Rattle.march.proofs.advance.Goals as goal
 pub returns-in-Crossing : goal.returns-in-Crossing
 returns-in-Crossing c =
     let a = c.args in
-    let f = is_halved (state_in a.s) a.s.ticks a.at c.cut_to-len.result 1
+    let f = is_halved (state_in a.s.now) a.s.now.ticks a.at c.cut_to-len.result 1
     c.cut_to-len.ensures c.in-Crossing.ensures a.out.now refl c.if-len-gt1.true in
     record { next = f.0; bytes = f.1 }
 
@@ -16,9 +16,9 @@ returns-in-Crossing c =
 pub returns-in_default : goal.returns-in_default
 returns-in_default c =
     let a = c.args in
-    let st = state_in a.s in
+    let st = state_in a.s.now in
     let w = c.requires.waiting in
-    let f = is_finished st a.s.ticks a.at c.cut_to-len.result c.mark.result c.cut_to-len.ensures (c.mark.ensures ∙ c.probe.ensures) a.out.now
-    (rw c.cut_to-len.ensures (cut_is st a.s.ticks a.at.first a.at.length w.some w.within).some)
+    let f = is_finished st a.s.now.ticks a.at c.cut_to-len.result c.mark.result c.cut_to-len.ensures (c.mark.ensures ∙ c.probe.ensures) a.out.now
+    (rw c.cut_to-len.ensures (cut_is st a.s.now.ticks a.at.first a.at.length w.some w.within).some)
     (λ e. search rules) c.fill.new.marks c.fill.ensures in
     record { next = f.0; bytes = f.1 }

@@ -1,7 +1,8 @@
--- `span_bounds`: out of reach, both q are 0 and so are the bounds, of either kernel; else they are at most 65536, as `weigh_sizes` asks.
+-- `span_bounds`: out of reach, both q are 0 and so are the bounds, of either kernel. As `weigh_sizes` asks, they are at most 65536, of whatever
+-- distances.
 use mathlib.Core.Path.{◌≡◌, sym, ap, subst, ◌∙◌}
-use mathlib.Core.Bool.{Bool, false, cond, ◌||◌}
-use Prim.Native.Nat.{ℕ, ◌*◌, min, max}
+use mathlib.Core.Bool.{Bool, true, false, cond, ◌||◌}
+use Prim.Native.Nat.{ℕ, ◌*◌, ◌≤◌, min, max}
 use native.Mathlib.Nat.{le_trans, le_of_eq}
 use lib.Dec.{ltb}
 use lib.IntN.{ℤ, pos, nat_abs}
@@ -9,14 +10,13 @@ use lib.Signed.{◌≤ℤ◌}
 use mir.Syntax.{w64}
 use mir.Val.{SFits}
 use mir.Facts.{to_z-of_z}
-use Rattle.exact.proofs.Tests.{positive_small}
 use Rattle.exact.proofs.Machine.{back, param, sized}
 use Rattle.field.specs.declared.Span.{Span}
 use Rattle.field.specs.Kernel.{Kernel}
 use Rattle.field.specs.Solid.{kernel_of}
 use Rattle.field.specs.declared.Bounds.{Bounds}
 use Rattle.field.specs.Bounds.{distance_at, foot_inside, low_q, high_q, scaled_square, qlo, qhi, weighted, point_bounds}
-use Rattle.field.proofs.Quotients.{qlo-le, qhi-le}
+use Rattle.field.proofs.Quotients.{low_q_le, high_q_le}
 use Rattle.field.proofs.Far.{weighted_none}
 use Rattle.field.proofs.Solids.{kernel_lawful}
 use Rattle.points.specs.declared.Reached.{Reached}
@@ -52,6 +52,10 @@ weigh_is : (k : Kernel) {r : Bounds} {w w' : ℤ} {x x' y y' : ℕ} → r ≡ we
     → r ≡ weighted w' (k.low x') (k.high y')
 weigh_is k e w x y = rw (w, x, y) at e
 
+cond_le : (b : Bool) {x y k : ℕ} → x ≤ k → y ≤ k → cond b x y ≤ k
+cond_le true h g = h
+cond_le false h g = g
+
 pub returns-else-comes_within : goal.returns-else-comes_within
 unfolding point_bounds
 returns-else-comes_within c =
@@ -69,14 +73,11 @@ greatest_q-high-requires-clause-pos_bound c =
 pub weigh_sizes-requires : goal.weigh_sizes-requires
 weigh_sizes-requires c =
     let r = c.requires.reached_ranges in
-    let h = c.requires.span_ranges in
-    let l = low c.args.p c.args.s c.ranges.a r h c.scaled_square-whole.ensures.0 c.distance_at-i.ensures c.distance_at-j.ensures
-    c.foot_inside-foot.ensures c.max-farther.ensures c.low_q-low.ensures in
-    let g = high c.args.p c.args.s c.ranges.a r h c.scaled_square-whole.ensures.0 c.distance_at-i.ensures c.distance_at-j.ensures
-    c.foot_inside-foot.ensures c.min-nearer.ensures c.greatest_q-high.ensures in (
+    let h = peak_small r in (
       sized {w = w64} (param r.ranges.weight_small tt),
-      le_trans (le_of_eq l) (qlo-le _ _ _),
-      le_trans (le_of_eq g) (qhi-le _ _ _ (positive_small r.ranges.square_low r.ranges.square_high).0 h.ticks_low),
+      le_trans (le_of_eq c.low_q-low.ensures) (low_q_le _ _),
+      le_trans (le_of_eq c.greatest_q-high.ensures)
+          (cond_le _ (sized (param {w = w64} h.1 tt)).abs (high_q_le _ _ c.scaled_square-whole.ensures.1)),
     )
 
 pub returns-then-comes_within : goal.returns-then-comes_within
