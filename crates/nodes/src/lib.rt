@@ -13,14 +13,14 @@ use record::{Node, Refusal, node_at};
 // Six numbers for each of the 511 records that question 4 allows.
 pub const NUMBERS: usize = 3066;
 
-// The six numbers of a node, at the front of a room.
+// The six numbers of a node, at an array's start.
 #[tactic(auto, unfolding(crate::specs::Numbers::numbers))]
-fn put_front(n: Node, room: &mut [i32])
-    requires { 6 ≤ length room.old }
-    ensures { room.new ≡ numbers (n ∷ []) ++ drop 6 room.old }
+fn put_first(n: Node, out: &mut [i32])
+    requires { 6 ≤ length out.old }
+    ensures { out.new ≡ numbers (n ∷ []) ++ drop 6 out.old }
 {
-    if let Some(place) = room.first_chunk_mut() {
-        *place = [n.kind, n.radius, n.x, n.y, n.z, n.weight];
+    if let Some(first) = out.first_chunk_mut() {
+        *first = [n.kind, n.radius, n.x, n.y, n.z, n.weight];
     }
 }
 
@@ -29,7 +29,7 @@ fn put_node(n: Node, out: &mut [i32], to: usize)
     requires { to + 6 ≤ length out.old }
     ensures { out.new ≡ sets out.old to (numbers (n ∷ [])) }
 {
-    put_front(n, &mut out[to..]);
+    put_first(n, &mut out[to..]);
 }
 
 // The numbers of n records, from the array's start on.

@@ -6,7 +6,7 @@ use borrow.Rule.Slice.PartMut.{put_mid}
 use Rattle.nodes.specs.Numbers.{numbers}
 use Rattle.nodes.proofs.put_node.Goals as goal
 
--- the front of `l[to..]` is replaced
+-- the first six of `l[to..]` are replaced
 stored : (xs l ys : List ℤ) (to k : ℕ) → length xs ≡ 6 → k ≡ length l - to → to + 6 ≤ length l → ys ≡ xs ++ drop 6 (take k (drop to l))
     → put_mid to k l ys ≡ sets l to xs
 stored xs l ys to k e f h p =
@@ -19,4 +19,4 @@ pub returns : goal.returns
 unfolding numbers
 returns c =
     let a = c.args in
-    stored (numbers (a.n ∷ [])) a.out.now _ a.to _ refl refl c.requires c.put_front.ensures
+    stored (numbers (a.n ∷ [])) a.out.now _ a.to _ refl refl c.requires c.put_first.ensures
